@@ -2,7 +2,7 @@
 ghost use Rattle.std.specs.Prelude.{◌≡◌, ◌<◌, ◌^◌, ◌⊎◌, true};
 ghost use Rattle.a64_insn.specs.declared.form.A64Form.{A64Form};
 ghost use Rattle.emu_bits.specs.Numbers.{width_of};
-ghost use Rattle.a64_effects.specs.Groups.{scalar};
+ghost use Rattle.a64_effects.specs.Groups.{after_data};
 ghost use Rattle.a64_effects.specs.Scalar as table;
 ghost use Rattle.a64_data.specs.Groups.{is_sum};
 
@@ -94,7 +94,7 @@ fn shifted_12(sh: bool, imm: U<12>) -> u64
 /// Does a sum.
 pub(crate) fn exec(core: &mut Core, i: &A64)
     requires { is_sum i.now ≡ true }
-    ensures { core.new ≡ scalar i.now core.old }
+    ensures { core.new ≡ after_data i.now core.old }
 {
     match *i.form() {
         A64Form::AddImm {
@@ -129,7 +129,7 @@ pub(crate) fn exec(core: &mut Core, i: &A64)
 }
 
 fn add_imm(core: &mut Core, op: AddOp, sf: bool, sh: bool, imm12: U<12>, rn: Reg, rd: Reg)
-    ensures { core.new ≡ scalar (A64Form.AddImm op sf sh imm12 rn rd) core.old }
+    ensures { core.new ≡ after_data (A64Form.AddImm op sf sh imm12 rn rd) core.old }
 {
     // the width is a constant in each of the two
     if sf {
@@ -152,7 +152,7 @@ fn add_imm_at(
 )
     requires width { w ≡ width_of sf }
     requires either { (w ≡ 32) ⊎ (w ≡ 64) }
-    ensures { core.new ≡ scalar (A64Form.AddImm op sf sh imm12 rn rd) core.old }
+    ensures { core.new ≡ after_data (A64Form.AddImm op sf sh imm12 rn rd) core.old }
 {
     let a = operand_sp(w, core, rn);
     add_sp(core, op, w, rd, a, shifted_12(sh, imm12));
@@ -168,7 +168,7 @@ fn add_reg(
     rn: Reg,
     rd: Reg,
 )
-    ensures { core.new ≡ scalar (A64Form.AddReg op sf shift rm amount rn rd) core.old }
+    ensures { core.new ≡ after_data (A64Form.AddReg op sf shift rm amount rn rd) core.old }
 {
     // the width is a constant in each of the two
     if sf {
@@ -192,7 +192,7 @@ fn add_reg_at(
 )
     requires width { w ≡ width_of sf }
     requires either { (w ≡ 32) ⊎ (w ≡ 64) }
-    ensures { core.new ≡ scalar (A64Form.AddReg op sf shift rm amount rn rd) core.old }
+    ensures { core.new ≡ after_data (A64Form.AddReg op sf shift rm amount rn rd) core.old }
 {
     let a = operand(w, core, rn);
     let b = shifted(w, shift, operand(w, core, rm), amount);
@@ -200,7 +200,7 @@ fn add_reg_at(
 }
 
 fn add_ext(core: &mut Core, op: AddOp, sf: bool, rm: Reg, ext: U<3>, a: U<3>, rn: Reg, rd: Reg)
-    ensures { core.new ≡ scalar (A64Form.AddExt op sf rm ext a rn rd) core.old }
+    ensures { core.new ≡ after_data (A64Form.AddExt op sf rm ext a rn rd) core.old }
 {
     let w = width_of(sf);
     let first = operand_sp(w, core, rn);
@@ -209,7 +209,7 @@ fn add_ext(core: &mut Core, op: AddOp, sf: bool, rm: Reg, ext: U<3>, a: U<3>, rn
 }
 
 fn add_carry(core: &mut Core, op: AddCarryOp, sf: bool, rm: Reg, rn: Reg, rd: Reg)
-    ensures { core.new ≡ scalar (A64Form.AddCarry op sf rm rn rd) core.old }
+    ensures { core.new ≡ after_data (A64Form.AddCarry op sf rm rn rd) core.old }
 {
     let w = width_of(sf);
     let a = operand(w, core, rn);

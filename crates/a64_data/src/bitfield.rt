@@ -4,7 +4,7 @@ ghost use Rattle.a64_insn.specs.declared.form.A64Form.{A64Form};
 ghost use Rattle.a64_insn.specs.Rows.{meets_form};
 ghost use Rattle.emu_bits.specs.Fields.{field};
 ghost use Rattle.emu_bits.specs.Numbers as numbers;
-ghost use Rattle.a64_effects.specs.Groups.{scalar};
+ghost use Rattle.a64_effects.specs.Groups.{after_data};
 ghost use Rattle.a64_effects.specs.Scalar as table;
 ghost use Rattle.emu_bits.specs.Operations as bits;
 ghost use Rattle.a64_data.specs.Groups.{is_field};
@@ -102,7 +102,7 @@ fn places(w: u32, r: u32, s: u32) -> Move
 /// Moves a field of a register.
 pub(crate) fn exec(core: &mut Core, i: &A64)
     requires { is_field i.now ≡ true }
-    ensures { core.new ≡ scalar i.now core.old }
+    ensures { core.new ≡ after_data i.now core.old }
 {
     match *i.form() {
         A64Form::Bitfield {
@@ -128,7 +128,7 @@ pub(crate) fn exec(core: &mut Core, i: &A64)
 
 fn bitfield(core: &mut Core, op: BitfieldOp, sf: bool, n: bool, r: U<6>, s: U<6>, rn: Reg, rd: Reg)
     requires { meets_form (A64Form.Bitfield op sf n r s rn rd) ≡ true }
-    ensures { core.new ≡ scalar (A64Form.Bitfield op sf n r s rn rd) core.old }
+    ensures { core.new ≡ after_data (A64Form.Bitfield op sf n r s rn rd) core.old }
 {
     // the width is a constant in each of the two
     if sf {
@@ -154,13 +154,13 @@ fn bitfield_at(
     requires width { w ≡ numbers.width_of sf }
     requires either { (w ≡ 32) ⊎ (w ≡ 64) }
     requires met { meets_form (A64Form.Bitfield op sf n r s rn rd) ≡ true }
-    ensures { core.new ≡ scalar (A64Form.Bitfield op sf n r s rn rd) core.old }
+    ensures { core.new ≡ after_data (A64Form.Bitfield op sf n r s rn rd) core.old }
 {
     move_field(core, op, w, rn, rd, places(w, r.get(), s.get()));
 }
 
 fn extract(core: &mut Core, sf: bool, n: bool, rm: Reg, s: U<6>, rn: Reg, rd: Reg)
-    ensures { core.new ≡ scalar (A64Form.Extract sf n rm s rn rd) core.old }
+    ensures { core.new ≡ after_data (A64Form.Extract sf n rm s rn rd) core.old }
 {
     let w = width_of(sf);
     let v = extracted(w, operand(w, core, rn), operand(w, core, rm), s.get());

@@ -1,7 +1,7 @@
 //! Bits and bytes in another order, and counts of leading bits.
 ghost use Rattle.std.specs.Prelude.{◌≡◌, ◌<◌, ◌^◌, ◌⊎◌, true};
 ghost use Rattle.a64_insn.specs.declared.form.A64Form.{A64Form};
-ghost use Rattle.a64_effects.specs.Groups.{scalar};
+ghost use Rattle.a64_effects.specs.Groups.{after_data};
 ghost use Rattle.a64_effects.specs.Scalar as table;
 ghost use Rattle.emu_bits.specs.Operations as bits;
 ghost use Rattle.a64_data.specs.Groups.{is_reversal};
@@ -95,7 +95,7 @@ fn leading_copies(w: u32, a: u64) -> u32
 fn of_one(op: OneSourceOp, w: u32, a: u64) -> u64
     requires width { (w ≡ 32) ⊎ (w ≡ 64) }
     requires within { a < 2 ^ w }
-    ensures { result ≡ table.one_source op w a }
+    ensures { result ≡ table.of_one_source op w a }
 {
     match op {
         OneSourceOp::Rbit => reversed_bits(w, a),
@@ -114,7 +114,7 @@ fn of_one(op: OneSourceOp, w: u32, a: u64) -> u64
 /// Counts or reverses bits or bytes.
 pub(crate) fn exec(core: &mut Core, i: &A64)
     requires { is_reversal i.now ≡ true }
-    ensures { core.new ≡ scalar i.now core.old }
+    ensures { core.new ≡ after_data i.now core.old }
 {
     match *i.form() {
         A64Form::OneSource { op, sf, rn, rd } => one_source(core, op, sf, rn, rd),
@@ -124,7 +124,7 @@ pub(crate) fn exec(core: &mut Core, i: &A64)
 }
 
 fn one_source(core: &mut Core, op: OneSourceOp, sf: bool, rn: Reg, rd: Reg)
-    ensures { core.new ≡ scalar (A64Form.OneSource op sf rn rd) core.old }
+    ensures { core.new ≡ after_data (A64Form.OneSource op sf rn rd) core.old }
 {
     let w = width_of(sf);
     let v = of_one(op, w, operand(w, core, rn));
@@ -132,7 +132,7 @@ fn one_source(core: &mut Core, op: OneSourceOp, sf: bool, rn: Reg, rd: Reg)
 }
 
 fn rev(core: &mut Core, op: RevOp, rn: Reg, rd: Reg)
-    ensures { core.new ≡ scalar (A64Form.Rev op rn rd) core.old }
+    ensures { core.new ≡ after_data (A64Form.Rev op rn rd) core.old }
 {
     match op {
         RevOp::RevW => {

@@ -2,7 +2,7 @@
 ghost use Rattle.std.specs.Prelude.{◌≡◌, ◌<◌, ◌^◌, ◌⊎◌, true};
 ghost use Rattle.a64_insn.specs.declared.form.A64Form.{A64Form};
 ghost use Rattle.emu_bits.specs.Numbers as numbers;
-ghost use Rattle.a64_effects.specs.Groups.{scalar};
+ghost use Rattle.a64_effects.specs.Groups.{after_data};
 ghost use Rattle.a64_effects.specs.Scalar as table;
 ghost use Rattle.a64_data.specs.Groups.{is_conditional};
 
@@ -18,7 +18,7 @@ fn compared(op: CondCompareOp, w: u32, a: u64, b: u64) -> Flags
     requires width { (w ≡ 32) ⊎ (w ≡ 64) }
     requires first { a < 2 ^ w }
     requires second { b < 2 ^ w }
-    ensures { result ≡ table.compared op w a b }
+    ensures { result ≡ table.flags_of_compare op w a b }
 {
     match op {
         CondCompareOp::Ccmn => add_flags(a, b, false, w).1,
@@ -44,7 +44,7 @@ fn compare(core: &mut Core, op: CondCompareOp, w: u32, a: u64, b: u64, cond: U<4
 /// Does a conditional compare or a select.
 pub(crate) fn exec(core: &mut Core, i: &A64)
     requires { is_conditional i.now ≡ true }
-    ensures { core.new ≡ scalar i.now core.old }
+    ensures { core.new ≡ after_data i.now core.old }
 {
     match *i.form() {
         A64Form::CondReg {
@@ -76,7 +76,7 @@ pub(crate) fn exec(core: &mut Core, i: &A64)
 }
 
 fn cond_reg(core: &mut Core, op: CondCompareOp, sf: bool, rm: Reg, cond: U<4>, rn: Reg, f: U<4>)
-    ensures { core.new ≡ scalar (A64Form.CondReg op sf rm cond rn f) core.old }
+    ensures { core.new ≡ after_data (A64Form.CondReg op sf rm cond rn f) core.old }
 {
     let w = width_of(sf);
     let (a, b) = (operand(w, core, rn), operand(w, core, rm));
@@ -84,7 +84,7 @@ fn cond_reg(core: &mut Core, op: CondCompareOp, sf: bool, rm: Reg, cond: U<4>, r
 }
 
 fn cond_imm(core: &mut Core, op: CondCompareOp, sf: bool, i: U<5>, cond: U<4>, rn: Reg, f: U<4>)
-    ensures { core.new ≡ scalar (A64Form.CondImm op sf i cond rn f) core.old }
+    ensures { core.new ≡ after_data (A64Form.CondImm op sf i cond rn f) core.old }
 {
     let w = width_of(sf);
     let a = operand(w, core, rn);
@@ -95,7 +95,7 @@ fn cond_imm(core: &mut Core, op: CondCompareOp, sf: bool, i: U<5>, cond: U<4>, r
 fn otherwise(op: SelectOp, w: u32, b: u64) -> u128
     requires width { (w ≡ 32) ⊎ (w ≡ 64) }
     requires within { b < 2 ^ w }
-    ensures { result ≡ table.otherwise op w b }
+    ensures { result ≡ table.selected_else op w b }
 {
     match op {
         SelectOp::Csel => b as u128,
@@ -106,7 +106,7 @@ fn otherwise(op: SelectOp, w: u32, b: u64) -> u128
 }
 
 fn select(core: &mut Core, op: SelectOp, sf: bool, rm: Reg, cond: U<4>, rn: Reg, rd: Reg)
-    ensures { core.new ≡ scalar (A64Form.Select op sf rm cond rn rd) core.old }
+    ensures { core.new ≡ after_data (A64Form.Select op sf rm cond rn rd) core.old }
 {
     // the width is a constant in each of the two
     if sf {
@@ -120,7 +120,7 @@ fn select(core: &mut Core, op: SelectOp, sf: bool, rm: Reg, cond: U<4>, rn: Reg,
 fn select_at(core: &mut Core, op: SelectOp, sf: bool, rm: Reg, cond: U<4>, rn: Reg, rd: Reg, w: u32)
     requires width { w ≡ numbers.width_of sf }
     requires either { (w ≡ 32) ⊎ (w ≡ 64) }
-    ensures { core.new ≡ scalar (A64Form.Select op sf rm cond rn rd) core.old }
+    ensures { core.new ≡ after_data (A64Form.Select op sf rm cond rn rd) core.old }
 {
     let v = if Cond::of_number(cond).holds(core.flags()) {
         operand(w, core, rn) as u128

@@ -15,7 +15,7 @@ mod sums;
 
 ghost use Rattle.std.specs.Prelude.{◌≡◌, true};
 ghost use Rattle.emu_model.specs.declared.trap.Effect.{Effect};
-ghost use Rattle.a64_effects.specs.Groups.{is_data, scalar};
+ghost use Rattle.a64_effects.specs.Groups.{is_data, after_data};
 
 use a64_insn::{A64, A64Form};
 use core_regs::{Core, Effect};
@@ -24,7 +24,7 @@ use core_regs::{Core, Effect};
 /// quotients, conditional compares and selects. Only Rd and the flags change; the step goes on behind the instruction.
 pub fn exec(core: &mut Core, i: &A64) -> Effect
     requires { is_data i.now ≡ true }
-    ensures registers { core.new ≡ scalar i.now core.old }
+    ensures registers { core.new ≡ after_data i.now core.old }
     ensures effect { result ≡ Effect.Next }
 {
     match *i.form() {

@@ -2,7 +2,7 @@
 ghost use Rattle.std.specs.Prelude.{◌≡◌, ◌<◌, ◌^◌, ◌⊎◌, true};
 ghost use Rattle.a64_insn.specs.declared.form.A64Form.{A64Form};
 ghost use Rattle.emu_bits.specs.Numbers.{width_of};
-ghost use Rattle.a64_effects.specs.Groups.{scalar};
+ghost use Rattle.a64_effects.specs.Groups.{after_data};
 ghost use Rattle.a64_effects.specs.Scalar as table;
 ghost use Rattle.emu_bits.specs.Operations.{flags_of_result};
 ghost use Rattle.a64_data.specs.Groups.{is_logical};
@@ -62,7 +62,7 @@ fn logic_of(core: &mut Core, op: LogicRegOp, w: u32, rd: Reg, a: u64, b: u64)
 /// Does a logical operation.
 pub(crate) fn exec(core: &mut Core, i: &A64)
     requires { is_logical i.now ≡ true }
-    ensures { core.new ≡ scalar i.now core.old }
+    ensures { core.new ≡ after_data i.now core.old }
 {
     match *i.form() {
         A64Form::LogicImm {
@@ -97,7 +97,7 @@ fn logic_reg(
     rn: Reg,
     rd: Reg,
 )
-    ensures { core.new ≡ scalar (A64Form.LogicReg op sf shift rm amount rn rd) core.old }
+    ensures { core.new ≡ after_data (A64Form.LogicReg op sf shift rm amount rn rd) core.old }
 {
     // the width is a constant in each of the two
     if sf {
@@ -121,7 +121,7 @@ fn logic_reg_at(
 )
     requires width { w ≡ width_of sf }
     requires either { (w ≡ 32) ⊎ (w ≡ 64) }
-    ensures { core.new ≡ scalar (A64Form.LogicReg op sf shift rm amount rn rd) core.old }
+    ensures { core.new ≡ after_data (A64Form.LogicReg op sf shift rm amount rn rd) core.old }
 {
     let a = operand(w, core, rn);
     let b = shifted(w, shift, operand(w, core, rm), amount);
@@ -138,7 +138,7 @@ fn logic_imm(
     rn: Reg,
     rd: Reg,
 )
-    ensures { core.new ≡ scalar (A64Form.LogicImm op sf n immr imms rn rd) core.old }
+    ensures { core.new ≡ after_data (A64Form.LogicImm op sf n immr imms rn rd) core.old }
 {
     if sf {
         logic_imm_at(core, op, sf, n, immr, imms, rn, rd, 64);
@@ -161,7 +161,7 @@ fn logic_imm_at(
 )
     requires width { w ≡ width_of sf }
     requires either { (w ≡ 32) ⊎ (w ≡ 64) }
-    ensures { core.new ≡ scalar (A64Form.LogicImm op sf n immr imms rn rd) core.old }
+    ensures { core.new ≡ after_data (A64Form.LogicImm op sf n immr imms rn rd) core.old }
 {
     let a = operand(w, core, rn);
     let mask = bitmask(n, immr.get(), imms.get(), w).unwrap_or(0);

@@ -2,7 +2,7 @@
 ghost use Rattle.std.specs.Prelude.{◌≡◌, ◌⊎◌, true};
 ghost use Rattle.a64_insn.specs.declared.form.A64Form.{A64Form};
 ghost use Rattle.emu_bits.specs.Numbers as numbers;
-ghost use Rattle.a64_effects.specs.Groups.{scalar};
+ghost use Rattle.a64_effects.specs.Groups.{after_data};
 ghost use Rattle.a64_data.specs.Groups.{is_move};
 
 use crate::bitfield::replaced;
@@ -16,7 +16,7 @@ use emu_bits::{Reg, U, sext};
 /// Makes an address near PC, or moves an immediate.
 pub(crate) fn exec(core: &mut Core, i: &A64)
     requires { is_move i.now ≡ true }
-    ensures { core.new ≡ scalar i.now core.old }
+    ensures { core.new ≡ after_data i.now core.old }
 {
     match *i.form() {
         A64Form::Adr {
@@ -37,7 +37,7 @@ pub(crate) fn exec(core: &mut Core, i: &A64)
 }
 
 fn adr(core: &mut Core, op: AdrOp, immlo: U<2>, immhi: U<19>, rd: Reg)
-    ensures { core.new ≡ scalar (A64Form.Adr op immlo immhi rd) core.old }
+    ensures { core.new ≡ after_data (A64Form.Adr op immlo immhi rd) core.old }
 {
     let i = sext(immhi.get() as u64 * 4 + immlo.get() as u64, 21) as i128;
     let pc = core.pc();
@@ -49,7 +49,7 @@ fn adr(core: &mut Core, op: AdrOp, immlo: U<2>, immhi: U<19>, rd: Reg)
 }
 
 fn move_wide(core: &mut Core, op: MoveWideOp, sf: bool, hw: U<2>, imm16: U<16>, rd: Reg)
-    ensures { core.new ≡ scalar (A64Form.MoveWide op sf hw imm16 rd) core.old }
+    ensures { core.new ≡ after_data (A64Form.MoveWide op sf hw imm16 rd) core.old }
 {
     // the width is a constant in each of the two
     if sf {
@@ -63,7 +63,7 @@ fn move_wide(core: &mut Core, op: MoveWideOp, sf: bool, hw: U<2>, imm16: U<16>, 
 fn move_wide_at(core: &mut Core, op: MoveWideOp, sf: bool, hw: U<2>, imm16: U<16>, rd: Reg, w: u32)
     requires width { w ≡ numbers.width_of sf }
     requires either { (w ≡ 32) ⊎ (w ≡ 64) }
-    ensures { core.new ≡ scalar (A64Form.MoveWide op sf hw imm16 rd) core.old }
+    ensures { core.new ≡ after_data (A64Form.MoveWide op sf hw imm16 rd) core.old }
 {
     let place = 16 * hw.get();
     let imm = imm16.get() as u64;

@@ -2,7 +2,7 @@
 ghost use Rattle.std.specs.Prelude.{◌≡◌, ◌<◌, ◌^◌, ◌*◌, ◌⊎◌, true};
 ghost use Rattle.a64_insn.specs.declared.form.A64Form.{A64Form};
 ghost use Rattle.emu_bits.specs.Numbers as numbers;
-ghost use Rattle.a64_effects.specs.Groups.{scalar};
+ghost use Rattle.a64_effects.specs.Groups.{after_data};
 ghost use Rattle.a64_effects.specs.Scalar as table;
 ghost use Rattle.emu_bits.specs.Operations as bits;
 ghost use Rattle.a64_data.specs.Groups.{is_product};
@@ -17,7 +17,7 @@ use emu_bits::{Reg, sext};
 /// Does a product, a quotient or a shift by a register.
 pub(crate) fn exec(core: &mut Core, i: &A64)
     requires { is_product i.now ≡ true }
-    ensures { core.new ≡ scalar i.now core.old }
+    ensures { core.new ≡ after_data i.now core.old }
 {
     match *i.form() {
         A64Form::MulAdd {
@@ -36,7 +36,7 @@ pub(crate) fn exec(core: &mut Core, i: &A64)
 }
 
 fn mul_add(core: &mut Core, op: MulAddOp, sf: bool, rm: Reg, ra: Reg, rn: Reg, rd: Reg)
-    ensures { core.new ≡ scalar (A64Form.MulAdd op sf rm ra rn rd) core.old }
+    ensures { core.new ≡ after_data (A64Form.MulAdd op sf rm ra rn rd) core.old }
 {
     // the width is a constant in each of the two
     if sf {
@@ -50,7 +50,7 @@ fn mul_add(core: &mut Core, op: MulAddOp, sf: bool, rm: Reg, ra: Reg, rn: Reg, r
 fn mul_add_at(core: &mut Core, op: MulAddOp, sf: bool, rm: Reg, ra: Reg, rn: Reg, rd: Reg, w: u32)
     requires width { w ≡ numbers.width_of sf }
     requires either { (w ≡ 32) ⊎ (w ≡ 64) }
-    ensures { core.new ≡ scalar (A64Form.MulAdd op sf rm ra rn rd) core.old }
+    ensures { core.new ≡ after_data (A64Form.MulAdd op sf rm ra rn rd) core.old }
 {
     let a = operand(w, core, ra);
     let p = operand(w, core, rn) as u128 * operand(w, core, rm) as u128;
@@ -68,7 +68,7 @@ fn signed_product(a: u64, b: u64) -> u64
 }
 
 fn mul_long(core: &mut Core, op: MulLongOp, rm: Reg, ra: Reg, rn: Reg, rd: Reg)
-    ensures { core.new ≡ scalar (A64Form.MulLong op rm ra rn rd) core.old }
+    ensures { core.new ≡ after_data (A64Form.MulLong op rm ra rn rd) core.old }
 {
     let x = operand(64, core, ra);
     let (a, b) = (operand(32, core, rn), operand(32, core, rm));
@@ -96,7 +96,7 @@ fn signed_upper_product(a: u64, b: u64) -> u64
 }
 
 fn mul_high(core: &mut Core, op: MulHighOp, rm: Reg, rn: Reg, rd: Reg)
-    ensures { core.new ≡ scalar (A64Form.MulHigh op rm rn rd) core.old }
+    ensures { core.new ≡ after_data (A64Form.MulHigh op rm rn rd) core.old }
 {
     let (a, b) = (operand(64, core, rn), operand(64, core, rm));
     let v = match op {
@@ -126,7 +126,7 @@ fn of_two(op: TwoSourceOp, w: u32, a: u64, b: u64) -> u64
     requires width { (w ≡ 32) ⊎ (w ≡ 64) }
     requires first { a < 2 ^ w }
     requires second { b < 2 ^ w }
-    ensures { result ≡ table.two_source op w a b }
+    ensures { result ≡ table.of_two_sources op w a b }
 {
     let k = (b % w as u64) as u32;
     match op {
@@ -140,7 +140,7 @@ fn of_two(op: TwoSourceOp, w: u32, a: u64, b: u64) -> u64
 }
 
 fn two_source(core: &mut Core, op: TwoSourceOp, sf: bool, rm: Reg, rn: Reg, rd: Reg)
-    ensures { core.new ≡ scalar (A64Form.TwoSource op sf rm rn rd) core.old }
+    ensures { core.new ≡ after_data (A64Form.TwoSource op sf rm rn rd) core.old }
 {
     let w = width_of(sf);
     let v = of_two(op, w, operand(w, core, rn), operand(w, core, rm));

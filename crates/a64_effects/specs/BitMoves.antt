@@ -14,11 +14,11 @@ use Rattle.emu_model.specs.Lanes.{lane, read_z, with_low}
 -- ---- fmov
 
 -- the low 32 or 64 bits, to a general register or to a vector register, with zeros above
-abbrev pub copied : FMoveOp → ℕ → ℕ → Core → Vectors → Registers
-copied WdSn rn rd c v = leaves (with_x c rd 32 (lane 32 (read_z v rn) 0)) v
-copied SdWn rn rd c v = leaves c (with_low 32 (read_x c rn) rd v)
-copied XdDn rn rd c v = leaves (with_x c rd 64 (lane 64 (read_z v rn) 0)) v
-copied DdXn rn rd c v = leaves c (with_low 64 (read_x c rn) rd v)
+abbrev pub after_fmov : FMoveOp → ℕ → ℕ → Core → Vectors → Registers
+after_fmov WdSn rn rd c v = leaves (with_x c rd 32 (lane 32 (read_z v rn) 0)) v
+after_fmov SdWn rn rd c v = leaves c (with_low 32 (read_x c rn) rd v)
+after_fmov XdDn rn rd c v = leaves (with_x c rd 64 (lane 64 (read_z v rn) 0)) v
+after_fmov DdXn rn rd c v = leaves c (with_low 64 (read_x c rn) rd v)
 
 -- ---- movi and mvni
 

@@ -33,12 +33,12 @@ use Rattle.emu_model.specs.State.{Core, with_x}
 -- ---- targets
 
 -- an address moved by a whole number
-abbrev pub offset : ℕ → ℤ → ℕ
-offset a i = unsigned_int (pos a +ℤ i) 64
+abbrev pub moved_address : ℕ → ℤ → ℕ
+moved_address a i = unsigned_int (pos a +ℤ i) 64
 
 -- PC plus four times a signed field of n bits
-abbrev pub target : Core → ℕ → ℕ → ℕ
-target c n imm = offset c.pc (pos 4 *ℤ signed imm n)
+abbrev pub branch_target : Core → ℕ → ℕ → ℕ
+branch_target c n imm = moved_address c.pc (pos 4 *ℤ signed imm n)
 
 -- the instruction behind this one
 abbrev pub return_address : Core → ℕ

@@ -60,14 +60,14 @@ copied_by (exchanges row) c v = leaves c v
 copied_by (copies after) c v = after c v
 
 -- the registers after a data row, which goes on behind it
-abbrev pub scalar : A64Form → Core → Core
-scalar form c = computed (operation_of form) c
+abbrev pub after_data : A64Form → Core → Core
+after_data form c = computed (operation_of form) c
 
 abbrev pub flow : A64Form → Core → Vectors → Memory → Done
 flow form c v m = if is_flow form then performed form c v m else went_well c v m
 
-abbrev pub access : A64Form → Core → Vectors → Memory → Done
-access form c v m = if is_load_store form then performed form c v m else went_well c v m
+abbrev pub load_store : A64Form → Core → Vectors → Memory → Done
+load_store form c v m = if is_load_store form then performed form c v m else went_well c v m
 
 -- the registers after a bit move, which goes on behind it
 abbrev pub bit_move : A64Form → Core → Vectors → Registers

@@ -20,7 +20,7 @@ use Rattle.a64_effects.specs.declared.transfer.Transfer.TheVariants.{Store, Load
 use Rattle.emu_model.specs.Done.{Done, Registers, leaves, traps, as_far}
 use Rattle.emu_model.specs.Elements.{Element, Reach, reach, with_stored, accesses_of}
 use Rattle.a64_effects.specs.Atomic.{one_step}
-use Rattle.a64_effects.specs.Flow.{offset}
+use Rattle.a64_effects.specs.Flow.{moved_address}
 
 -- ---- what is moved
 
@@ -73,8 +73,8 @@ ordered_transfer Ldar = Load
 -- ---- addresses
 
 -- a base register, which is SP where its number is 31, and a signed 9-bit offset
-abbrev pub near : Core → ℕ → ℕ → ℕ
-near c rn imm9 = offset (read_x_sp c rn) (signed imm9 9)
+abbrev pub base_and_imm9 : Core → ℕ → ℕ → ℕ
+base_and_imm9 c rn imm9 = moved_address (read_x_sp c rn) (signed imm9 9)
 
 -- an extended register, times n where S is 1
 abbrev pub indexed : Core → ℕ → ℕ → ℕ → Bool → ℕ → ℕ
@@ -82,7 +82,7 @@ indexed c rn rm ext s n = address (read_x_sp c rn + extended ext (read_x c rm) *
 
 -- a signed 7-bit offset that counts in accesses
 abbrev pub pair_near : Core → ℕ → ℕ → ℕ → ℕ
-pair_near c rn n imm7 = offset (read_x_sp c rn) (pos n *ℤ signed imm7 7)
+pair_near c rn n imm7 = moved_address (read_x_sp c rn) (pos n *ℤ signed imm7 7)
 
 -- mode 1 is post-indexed: the base itself; 0 and 2 are offset, and 3 is pre-indexed
 abbrev pub pair_address : Core → ℕ → ℕ → ℕ → ℕ → ℕ

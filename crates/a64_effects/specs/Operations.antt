@@ -17,10 +17,10 @@ use Rattle.emu_model.specs.State.{Core, Vectors, read_x, read_x_sp, with_x}
 use Rattle.a64_effects.specs.declared.transfer.Transfer.{Transfer}
 use Rattle.a64_effects.specs.declared.transfer.Transfer.TheVariants.{Store, Load}
 use Rattle.a64_effects.specs.Atomic.{low_bytes, updated, swapped}
-use Rattle.a64_effects.specs.BitMoves.{copied, immediate, move_value, with_immediate}
-use Rattle.a64_effects.specs.Flow.{target, after_branch, after_branch_to, branches_if, is_taken, tested_bit, digit, is_taken_by, system_value, with_system_value, excepted, after_barrier}
-use Rattle.a64_effects.specs.LoadStore.{Transferring, Exchanging, transfer, access_bytes, literal_transfer, literal_bytes, pair_transfer, pair_bytes, ordered_transfer, near, indexed, pair_near, pair_address, writes_back, registers_of, is_kept, has_sp, unchanged, written_back, written_back_if, keeping, after_exclusive}
-use Rattle.a64_effects.specs.Scalar.{operand, operand_sp, adr_offset, adr_target, after_add, after_add_sp, shifted_12, after_add_carry, after_logic_reg, after_logic_imm, wide_moved, after_bitfield, otherwise, after_compare, multiplied, multiplied_long, multiplied_high, two_source, one_source, rev_width, byte_reversed}
+use Rattle.a64_effects.specs.BitMoves.{after_fmov, immediate, move_value, with_immediate}
+use Rattle.a64_effects.specs.Flow.{branch_target, after_branch, after_branch_to, branches_if, is_taken, tested_bit, digit, is_taken_by, system_value, with_system_value, excepted, after_barrier}
+use Rattle.a64_effects.specs.LoadStore.{Transferring, Exchanging, transfer, access_bytes, literal_transfer, literal_bytes, pair_transfer, pair_bytes, ordered_transfer, base_and_imm9, indexed, pair_near, pair_address, writes_back, registers_of, is_kept, has_sp, unchanged, written_back, written_back_if, keeping, after_exclusive}
+use Rattle.a64_effects.specs.Scalar.{operand, operand_sp, adr_offset, adr_target, after_add, after_add_sp, shifted_12, after_add_carry, after_logic_reg, after_logic_imm, wide_moved, after_bitfield, selected_else, after_compare, multiplied, multiplied_long, multiplied_high, of_two_sources, of_one_source, rev_width, byte_reversed}
 
 -- What an instruction does, by the registers before it.
 pub data Operation : Type 0 where
@@ -38,8 +38,8 @@ pub data Operation : Type 0 where
 -- ---- loads and stores
 
 -- one register at an address from a base
-abbrev pub from_base : Bool → ℕ → ℕ → ℕ → ℕ → ℕ → (Core → Core) → Transferring
-from_base vector size opc rn rt a behind =
+abbrev pub one_transfer : Bool → ℕ → ℕ → ℕ → ℕ → ℕ → (Core → Core) → Transferring
+one_transfer vector size opc rn rt a behind =
     let t : Transfer = transfer vector size opc in
     record {
       transfer = t;
@@ -91,23 +91,23 @@ operation_of (AddCarry op sf rm rn rd) = at_width sf (λ w r c. after_add_carry 
 operation_of (CondReg op sf rm cond rn f) = at_width sf (λ w r c. after_compare op w (r rn) (r rm) cond f c)
 operation_of (CondImm op sf i cond rn f) = at_width sf (λ w r c. after_compare op w (r rn) i cond f c)
 operation_of (Select op sf rm cond rn rd) = at_width sf (λ w r c.
-    with_x c rd w (if cond_holds (cond_of cond) c.flags then r rn else otherwise op w (r rm)))
+    with_x c rd w (if cond_holds (cond_of cond) c.flags then r rn else selected_else op w (r rm)))
 operation_of (MulAdd op sf rm ra rn rd) = at_width sf (λ w r c. with_x c rd w (multiplied op w (r ra) (r rn * r rm)))
 operation_of (MulLong op rm ra rn rd) = computes (λ c.
     with_x c rd 64 (multiplied_long op (operand 64 c ra) (operand 32 c rn) (operand 32 c rm)))
 operation_of (MulHigh op rm rn rd) = computes (λ c.
     with_x c rd 64 (multiplied_high op (operand 64 c rn) (operand 64 c rm)))
-operation_of (TwoSource op sf rm rn rd) = at_width sf (λ w r c. with_x c rd w (two_source op w (r rn) (r rm)))
-operation_of (OneSource op sf rn rd) = at_width sf (λ w r c. with_x c rd w (one_source op w (r rn)))
+operation_of (TwoSource op sf rm rn rd) = at_width sf (λ w r c. with_x c rd w (of_two_sources op w (r rn) (r rm)))
+operation_of (OneSource op sf rn rd) = at_width sf (λ w r c. with_x c rd w (of_one_source op w (r rn)))
 operation_of (Rev op rn rd) = computes (λ c.
     with_x c rd (rev_width op) (byte_reversed op (operand (rev_width op) c rn)))
-operation_of (Branch op imm26) = flows (after_branch op) (λ c. Branching (target c 26 imm26))
+operation_of (Branch op imm26) = flows (after_branch op) (λ c. Branching (branch_target c 26 imm26))
 operation_of (BranchCond imm19 cond) = flows unchanged (λ c.
-    branches_if (cond_holds (cond_of cond) c.flags) (target c 19 imm19))
+    branches_if (cond_holds (cond_of cond) c.flags) (branch_target c 19 imm19))
 operation_of (Compare op sf imm19 rt) = flows unchanged (λ c.
-    branches_if (is_taken op (operand (width_of sf) c rt)) (target c 19 imm19))
+    branches_if (is_taken op (operand (width_of sf) c rt)) (branch_target c 19 imm19))
 operation_of (Test op b5 b40 imm14 rt) = flows unchanged (λ c.
-    branches_if (is_taken_by op (digit (read_x c rt) (tested_bit b5 b40))) (target c 14 imm14))
+    branches_if (is_taken_by op (digit (read_x c rt) (tested_bit b5 b40))) (branch_target c 14 imm14))
 -- blr reads its register before it writes x30
 operation_of (BranchReg op rn) = flows (after_branch_to op) (λ c. Branching (read_x c rn))
 operation_of (Except op imm16) = flows unchanged (λ c. excepted op c.pc)
@@ -116,19 +116,19 @@ operation_of (Barrier op n) = flows (after_barrier op) (λ c. Next)
 operation_of (ReadSys op rt) = flows (λ c. with_x c rt 64 (system_value op c)) (λ c. Next)
 operation_of (WriteSys op rt) = flows (λ c. with_system_value op (read_x c rt) c) (λ c. Next)
 operation_of (LsUnsigned size vector opc imm12 rn rt) = transfers (λ c.
-    from_base vector size opc rn rt (address (read_x_sp c rn + access_bytes vector size opc * imm12)) unchanged)
+    one_transfer vector size opc rn rt (address (read_x_sp c rn + access_bytes vector size opc * imm12)) unchanged)
 operation_of (LsUnscaled size vector opc imm9 rn rt) = transfers (λ c.
-    from_base vector size opc rn rt (near c rn imm9) unchanged)
+    one_transfer vector size opc rn rt (base_and_imm9 c rn imm9) unchanged)
 operation_of (LsPost size vector opc imm9 rn rt) = transfers (λ c.
-    from_base vector size opc rn rt (read_x_sp c rn) (written_back rn (near c rn imm9)))
+    one_transfer vector size opc rn rt (read_x_sp c rn) (written_back rn (base_and_imm9 c rn imm9)))
 operation_of (LsPre size vector opc imm9 rn rt) = transfers (λ c.
-    from_base vector size opc rn rt (near c rn imm9) (written_back rn (near c rn imm9)))
+    one_transfer vector size opc rn rt (base_and_imm9 c rn imm9) (written_back rn (base_and_imm9 c rn imm9)))
 operation_of (LsReg size vector opc rm ext s rn rt) = transfers (λ c.
-    from_base vector size opc rn rt (indexed c rn rm ext s (access_bytes vector size opc)) unchanged)
+    one_transfer vector size opc rn rt (indexed c rn rm ext s (access_bytes vector size opc)) unchanged)
 operation_of (LsLiteral opc vector imm19 rt) = transfers (λ c. record {
   transfer = literal_transfer vector opc;
   registers = registers_of (literal_transfer vector opc) rt;
-  address = target c 19 imm19;
+  address = branch_target c 19 imm19;
   bytes = literal_bytes vector opc;
   tests_sp = false;
   is_aligned = false;
@@ -167,6 +167,6 @@ operation_of (CompareSwap size acquires releases rs rn rt) = exchanges (λ c. re
   new = λ o. swapped (o == low_bytes (2 ^ size) c rs) (low_bytes (2 ^ size) c rt);
   behind = with_x c rs 64;
 })
-operation_of (FMove op rn rd) = copies (copied op rn rd)
+operation_of (FMove op rn rd) = copies (after_fmov op rn rd)
 operation_of (MoveImm q op abc cmode defgh rd) = copies (λ c v.
     leaves c (with_immediate q (move_value op cmode (immediate abc defgh)) rd v))

@@ -154,21 +154,21 @@ after_bitfield op w r s rn rd c = after_field op w rn rd (field_from r s) (field
 -- ---- conditional operations
 
 -- the flags of a + b in ccmn, of a + NOT b + 1 in ccmp
-abbrev pub compared : CondCompareOp → ℕ → ℕ → ℕ → Flags
-compared Ccmn w a b = flags_of_sum w a b false
-compared Ccmp w a b = flags_of_sum w a (complement w b) true
+abbrev pub flags_of_compare : CondCompareOp → ℕ → ℕ → ℕ → Flags
+flags_of_compare Ccmn w a b = flags_of_sum w a b false
+flags_of_compare Ccmp w a b = flags_of_sum w a (complement w b) true
 
 -- Rm, Rm + 1, NOT Rm, -Rm
-abbrev pub otherwise : SelectOp → ℕ → ℕ → ℕ
-otherwise Csel w b = b
-otherwise Csinc w b = b + 1
-otherwise Csinv w b = complement w b
-otherwise Csneg w b = difference w 0 b
+abbrev pub selected_else : SelectOp → ℕ → ℕ → ℕ
+selected_else Csel w b = b
+selected_else Csinc w b = b + 1
+selected_else Csinv w b = complement w b
+selected_else Csneg w b = difference w 0 b
 
 -- the flags of the compare where the condition holds, else those of a number
 abbrev pub after_compare : CondCompareOp → ℕ → ℕ → ℕ → ℕ → ℕ → Core → Core
 after_compare op w a b cond f c =
-    record c { flags = if cond_holds (cond_of cond) c.flags then compared op w a b else flags_of_number f }
+    record c { flags = if cond_holds (cond_of cond) c.flags then flags_of_compare op w a b else flags_of_number f }
 
 -- ---- products and quotients
 
@@ -190,22 +190,22 @@ multiplied_high Smulh a b = signed_upper_product a b
 multiplied_high Umulh a b = upper_product a b
 
 -- quotients, and shifts by b mod w
-abbrev pub two_source : TwoSourceOp → ℕ → ℕ → ℕ → ℕ
-two_source Udiv w a b = unsigned_quotient a b
-two_source Sdiv w a b = signed_quotient w a b
-two_source Lslv w a b = lsl w a (b % w)
-two_source Lsrv w a b = lsr a (b % w)
-two_source Asrv w a b = asr w a (b % w)
-two_source Rorv w a b = ror w a (b % w)
+abbrev pub of_two_sources : TwoSourceOp → ℕ → ℕ → ℕ → ℕ
+of_two_sources Udiv w a b = unsigned_quotient a b
+of_two_sources Sdiv w a b = signed_quotient w a b
+of_two_sources Lslv w a b = lsl w a (b % w)
+of_two_sources Lsrv w a b = lsr a (b % w)
+of_two_sources Asrv w a b = asr w a (b % w)
+of_two_sources Rorv w a b = ror w a (b % w)
 
 -- ---- bits and bytes
 
 -- bits reversed; bytes of each 16 bits reversed; leading zeros; leading copies of the top bit after it
-abbrev pub one_source : OneSourceOp → ℕ → ℕ → ℕ
-one_source Rbit w a = reversed_bits w a
-one_source Rev16 w a = reversed_bytes 2 (w / 8) a
-one_source Clz w a = leading_zeros w a
-one_source Cls w a = leading_copies w a
+abbrev pub of_one_source : OneSourceOp → ℕ → ℕ → ℕ
+of_one_source Rbit w a = reversed_bits w a
+of_one_source Rev16 w a = reversed_bytes 2 (w / 8) a
+of_one_source Clz w a = leading_zeros w a
+of_one_source Cls w a = leading_copies w a
 
 -- the width of a reversal, and the bytes that are reversed
 abbrev pub rev_width : RevOp → ℕ

@@ -11,10 +11,10 @@ use Rattle.emu_model.specs.State.{Core, Vectors, read_x}
 use Rattle.emu_model.specs.SoundState.{IsSoundCore, IsSoundVectors}
 use Rattle.emu_model.specs.Lanes.{lane, read_z}
 use Rattle.emu_model.specs.SoundLanes.{sound_low}
-use Rattle.a64_effects.specs.BitMoves.{copied, with_immediate}
+use Rattle.a64_effects.specs.BitMoves.{after_fmov, with_immediate}
 
 module _ (c : Core) (v : Vectors) (s : IsSoundCore c) (u : IsSoundVectors v) where
-  pub copied_sound : (op : FMoveOp) (rn rd : ℕ) → IsSoundRegisters (copied op rn rd c v)
+  pub copied_sound : (op : FMoveOp) (rn rd : ℕ) → IsSoundRegisters (after_fmov op rn rd c v)
   copied_sound WdSn rn rd = record { core = with_x_sound c rd 32 (lane 32 (read_z v rn) 0) (omega arith) s; vectors = u }
   copied_sound SdWn rn rd = record { core = s; vectors = sound_low 32 (read_x c rn) rd v u }
   copied_sound XdDn rn rd = record { core = with_x_sound c rd 64 (lane 64 (read_z v rn) 0) (omega arith) s; vectors = u }

@@ -17,7 +17,7 @@ use Rattle.emu_model.specs.Sound.{with_x_sound, flags_sound, monitor_sound, low_
 use Rattle.emu_model.specs.SoundLists.{all_read}
 use Rattle.emu_model.specs.State.{Core, read_x, read_x_sp}
 use Rattle.emu_model.specs.SoundState.{IsWord, IsSoundCore}
-use Rattle.a64_effects.specs.Flow.{offset, return_address, linked, after_branch, after_branch_to, branches_if, with_system_value, excepted, after_barrier}
+use Rattle.a64_effects.specs.Flow.{moved_address, return_address, linked, after_branch, after_branch_to, branches_if, with_system_value, excepted, after_barrier}
 use Rattle.emu_model.specs.SoundDone.{IsSoundEffect}
 
 -- ---- words
@@ -26,7 +26,7 @@ reduced_is_word : (z : ℤ) → IsWord (unsigned_int z 64)
 reduced_is_word (pos n) = low_is_word n 64 (omega arith)
 reduced_is_word (negsuc n) = omega arith
 
-pub offset_is_word : (a : ℕ) (i : ℤ) → IsWord (offset a i)
+pub offset_is_word : (a : ℕ) (i : ℤ) → IsWord (moved_address a i)
 offset_is_word a i = reduced_is_word (pos a +ℤ i)
 
 pub read_x_is_word : (c : Core) (r : ℕ) → IsSoundCore c → IsWord (read_x c r)

@@ -1,7 +1,7 @@
 -- Loads and stores of one register at an address from a base.
 use Rattle.std.specs.Prelude.{ℕ, ◌≡◌, List, [], Option, Some, None, IfSome}
 use Rattle.a64_effects.specs.LoadStore.{Transferring, transferred_by, unchanged, written_back}
-use Rattle.a64_effects.specs.Operations.{from_base}
+use Rattle.a64_effects.specs.Operations.{one_transfer}
 use Rattle.a64_flow.specs.declared.singles.Single.{Single}
 use Rattle.a64_flow.specs.Ends.{done_with}
 use Rattle.emu_model.specs.declared.access.Access.{Access}
@@ -16,7 +16,7 @@ behind rn (Some a) = written_back rn a
 
 -- the access by its fields
 abbrev pub row_of : Single → Transferring
-row_of s = from_base s.v s.size s.opc s.rn s.rt s.address (behind s.rn s.back)
+row_of s = one_transfer s.v s.size s.opc s.rn s.rt s.address (behind s.rn s.back)
 
 -- What is left of an access that does as `by` says, from these registers and this memory: it was done, or else nothing
 -- is changed, and the fields that are answered say what it does.

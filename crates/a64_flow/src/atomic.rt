@@ -8,7 +8,7 @@ ghost use Rattle.emu_model.specs.Access.{refused, value};
 ghost use Rattle.emu_model.specs.Done.{Done, quietly};
 ghost use Rattle.emu_model.specs.State.{Core as CoreState, Vectors};
 ghost use Rattle.a64_effects.specs.Atomic as step;
-ghost use Rattle.a64_effects.specs.Groups.{access};
+ghost use Rattle.a64_effects.specs.Groups.{load_store};
 ghost use Rattle.a64_flow.specs.Ends.{ended};
 ghost use Rattle.a64_flow.specs.Groups.{is_atomic};
 
@@ -24,7 +24,7 @@ use guest_mem::{Access, AccessLog, Kind, Mem};
 pub(crate) fn exec(core: &mut Core, mem: &mut Mem, log: &mut AccessLog, i: &A64) -> Result<(), Trap>
     requires own { is_atomic i.now ≡ true }
     requires empty { log.old.items ≡ [] }
-    ensures done { (v : Vectors) → access i.now core.old v mem.old.memory
+    ensures done { (v : Vectors) → load_store i.now core.old v mem.old.memory
         ≡ ended result core.new v mem.new.memory log.new.items }
     ensures marks { mem.new.marks ≡ mem.old.marks }
 {
@@ -62,7 +62,7 @@ fn atomic(
 ) -> Result<(), Trap>
     requires { log.old.items ≡ [] }
     ensures done { (acquires : Bool) (releases : Bool) (v : Vectors)
-        → access (A64Form.Atomic op size acquires releases rs rn rt) core.old v mem.old.memory
+        → load_store (A64Form.Atomic op size acquires releases rs rn rt) core.old v mem.old.memory
         ≡ ended result core.new v mem.new.memory log.new.items }
     ensures marks { mem.new.marks ≡ mem.old.marks }
 {
@@ -88,7 +88,7 @@ fn compare_swap(
 ) -> Result<(), Trap>
     requires { log.old.items ≡ [] }
     ensures done { (acquires : Bool) (releases : Bool) (v : Vectors)
-        → access (A64Form.CompareSwap size acquires releases rs rn rt) core.old v mem.old.memory
+        → load_store (A64Form.CompareSwap size acquires releases rs rn rt) core.old v mem.old.memory
         ≡ ended result core.new v mem.new.memory log.new.items }
     ensures marks { mem.new.marks ≡ mem.old.marks }
 {

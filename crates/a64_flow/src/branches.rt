@@ -133,7 +133,7 @@ pub(crate) fn write_sys(core: &mut Core, op: WriteSysOp, rt: Reg) -> Effect
 
 /// An address moved by a signed number, modulo 2^64.
 pub(crate) fn offset(address: u64, by: i64) -> u64
-    ensures { result ≡ table.offset address by }
+    ensures { result ≡ table.moved_address address by }
 {
     address.wrapping_add_signed(by)
 }
@@ -142,7 +142,7 @@ pub(crate) fn offset(address: u64, by: i64) -> u64
 pub(crate) fn target(core: &Core, imm: u32, n: u32) -> u64
     requires some { 1 ≤ n }
     requires most { n ≤ 32 }
-    ensures { result ≡ table.target core.now n imm }
+    ensures { result ≡ table.branch_target core.now n imm }
 {
     offset(core.pc(), 4 * sext(imm as u64, n))
 }

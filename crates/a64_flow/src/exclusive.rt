@@ -4,7 +4,7 @@ ghost use Rattle.std.specs.Prelude.{◌≡◌, [], true};
 ghost use Rattle.a64_insn.specs.declared.form.A64Form.{A64Form};
 ghost use Rattle.a64_insn.specs.declared.ops.LoadExOp.{LoadExOp as LoadName};
 ghost use Rattle.a64_insn.specs.declared.ops.StoreExOp.{StoreExOp as StoreName};
-ghost use Rattle.a64_effects.specs.Groups.{access};
+ghost use Rattle.a64_effects.specs.Groups.{load_store};
 ghost use Rattle.a64_flow.specs.Ends.{ended};
 ghost use Rattle.a64_flow.specs.Groups.{is_exclusive};
 
@@ -30,7 +30,7 @@ pub(crate) fn exec(
 ) -> Result<(), Trap>
     requires own { is_exclusive i.now ≡ true }
     requires empty { log.old.items ≡ [] }
-    ensures done { access i.now core.old vec.old mem.old.memory
+    ensures done { load_store i.now core.old vec.old mem.old.memory
         ≡ ended result core.new vec.new mem.new.memory log.new.items }
     ensures marks { mem.new.marks ≡ mem.old.marks }
 {
@@ -61,7 +61,7 @@ fn store_ex(
     rt: Reg,
 ) -> Result<(), Trap>
     requires { log.old.items ≡ [] }
-    ensures done { (op : StoreName) → access (A64Form.StoreEx op size rs rn rt) core.old vec.old mem.old.memory
+    ensures done { (op : StoreName) → load_store (A64Form.StoreEx op size rs rn rt) core.old vec.old mem.old.memory
         ≡ ended result core.new vec.new mem.new.memory log.new.items }
     ensures marks { mem.new.marks ≡ mem.old.marks }
 {
@@ -88,7 +88,7 @@ fn load_ex(
     rt: Reg,
 ) -> Result<(), Trap>
     requires { log.old.items ≡ [] }
-    ensures done { (op : LoadName) → access (A64Form.LoadEx op size rn rt) core.old vec.old mem.old.memory
+    ensures done { (op : LoadName) → load_store (A64Form.LoadEx op size rn rt) core.old vec.old mem.old.memory
         ≡ ended result core.new vec.new mem.new.memory log.new.items }
     ensures marks { mem.new.marks ≡ mem.old.marks }
 {
@@ -112,7 +112,7 @@ fn ordered(
     rt: Reg,
 ) -> Result<(), Trap>
     requires { log.old.items ≡ [] }
-    ensures done { access (A64Form.Ordered op size rn rt) core.old vec.old mem.old.memory
+    ensures done { load_store (A64Form.Ordered op size rn rt) core.old vec.old mem.old.memory
         ≡ ended result core.new vec.new mem.new.memory log.new.items }
     ensures marks { mem.new.marks ≡ mem.old.marks }
 {

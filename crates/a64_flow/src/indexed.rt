@@ -3,7 +3,7 @@ ghost use Rattle.std.specs.Prelude.{◌≡◌, Bool};
 ghost use Rattle.a64_insn.specs.declared.form.A64Form.{A64Form};
 ghost use Rattle.emu_model.specs.Access.{Memory};
 ghost use Rattle.emu_model.specs.State.{Vectors};
-ghost use Rattle.a64_effects.specs.Groups.{access};
+ghost use Rattle.a64_effects.specs.Groups.{load_store};
 ghost use Rattle.a64_effects.specs.LoadStore.{transferred_by};
 ghost use Rattle.a64_flow.specs.Singles.{row_of};
 
@@ -23,7 +23,7 @@ pub(crate) fn post(
     rn: Reg,
     rt: Reg,
 ) -> Single
-    ensures { (w : Vectors) → (m : Memory) → access (A64Form.LsPost size v opc imm9 rn rt) core.now w m
+    ensures { (w : Vectors) → (m : Memory) → load_store (A64Form.LsPost size v opc imm9 rn rt) core.now w m
         ≡ transferred_by (row_of result) core.now w m }
 {
     Single {
@@ -48,7 +48,7 @@ pub(crate) fn pre(
     rn: Reg,
     rt: Reg,
 ) -> Single
-    ensures { (w : Vectors) → (m : Memory) → access (A64Form.LsPre size v opc imm9 rn rt) core.now w m
+    ensures { (w : Vectors) → (m : Memory) → load_store (A64Form.LsPre size v opc imm9 rn rt) core.now w m
         ≡ transferred_by (row_of result) core.now w m }
 {
     let address = near(core, rn, imm9);

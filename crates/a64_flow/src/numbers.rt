@@ -25,7 +25,7 @@ pub(crate) fn bytes_of(size: U<2>) -> u32
 
 /// A base register and an offset in bytes, signed.
 pub(crate) fn near(core: &Core, rn: Reg, imm9: U<9>) -> u64
-    ensures { result ≡ table.near core.now rn imm9 }
+    ensures { result ≡ table.base_and_imm9 core.now rn imm9 }
 {
     offset(core.x_sp(rn), sext(imm9.get() as u64, 9))
 }

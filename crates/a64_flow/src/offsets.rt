@@ -3,7 +3,7 @@ ghost use Rattle.std.specs.Prelude.{◌≡◌, []};
 ghost use Rattle.a64_insn.specs.declared.form.A64Form.{A64Form};
 ghost use Rattle.emu_model.specs.Access.{Memory};
 ghost use Rattle.emu_model.specs.State.{Core as CoreState, Vectors};
-ghost use Rattle.a64_effects.specs.Groups.{access};
+ghost use Rattle.a64_effects.specs.Groups.{load_store};
 ghost use Rattle.a64_effects.specs.LoadStore.{transferred_by};
 ghost use Rattle.a64_effects.specs.Operations as rows;
 ghost use Rattle.a64_flow.specs.Ends.{ended, followed_by};
@@ -38,7 +38,7 @@ pub(crate) fn from_base(
 ) -> Result<(), Trap>
     requires { log.old.items ≡ [] }
     ensures done { (after : CoreState → CoreState)
-        → transferred_by (rows.from_base v size opc rn rt address after) core.old vec.old mem.old.memory
+        → transferred_by (rows.one_transfer v size opc rn rt address after) core.old vec.old mem.old.memory
         ≡ followed_by after result core.new vec.new mem.new.memory log.new.items }
     ensures marks { mem.new.marks ≡ mem.old.marks }
 {
@@ -59,7 +59,7 @@ pub(crate) fn unsigned(
     rn: Reg,
     rt: Reg,
 ) -> Single
-    ensures { (w : Vectors) → (m : Memory) → access (A64Form.LsUnsigned size v opc imm12 rn rt) core.now w m
+    ensures { (w : Vectors) → (m : Memory) → load_store (A64Form.LsUnsigned size v opc imm12 rn rt) core.now w m
         ≡ transferred_by (row_of result) core.now w m }
 {
     let n = access_bytes(v, size, opc);
@@ -86,7 +86,7 @@ pub(crate) fn unscaled(
     rn: Reg,
     rt: Reg,
 ) -> Single
-    ensures { (w : Vectors) → (m : Memory) → access (A64Form.LsUnscaled size v opc imm9 rn rt) core.now w m
+    ensures { (w : Vectors) → (m : Memory) → load_store (A64Form.LsUnscaled size v opc imm9 rn rt) core.now w m
         ≡ transferred_by (row_of result) core.now w m }
 {
     Single {
@@ -113,7 +113,7 @@ pub(crate) fn register(
     rn: Reg,
     rt: Reg,
 ) -> Single
-    ensures { (w : Vectors) → (m : Memory) → access (A64Form.LsReg size v opc rm ext s rn rt) core.now w m
+    ensures { (w : Vectors) → (m : Memory) → load_store (A64Form.LsReg size v opc rm ext s rn rt) core.now w m
         ≡ transferred_by (row_of result) core.now w m }
 {
     let address = indexed(core, rn, rm, ext, s, access_bytes(v, size, opc));
@@ -140,7 +140,7 @@ pub(crate) fn ls_literal(
     rt: Reg,
 ) -> Result<(), Trap>
     requires { log.old.items ≡ [] }
-    ensures done { access (A64Form.LsLiteral opc v imm19 rt) core.old vec.old mem.old.memory
+    ensures done { load_store (A64Form.LsLiteral opc v imm19 rt) core.old vec.old mem.old.memory
         ≡ ended result core.new vec.new mem.new.memory log.new.items }
     ensures marks { mem.new.marks ≡ mem.old.marks }
 {

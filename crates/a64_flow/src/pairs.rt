@@ -1,7 +1,7 @@
 //! Pairs of registers.
 ghost use Rattle.std.specs.Prelude.{◌≡◌, [], Bool};
 ghost use Rattle.a64_insn.specs.declared.form.A64Form.{A64Form};
-ghost use Rattle.a64_effects.specs.Groups.{access};
+ghost use Rattle.a64_effects.specs.Groups.{load_store};
 ghost use Rattle.a64_flow.specs.Ends.{ended};
 
 use crate::elements::couple;
@@ -29,7 +29,7 @@ pub(crate) fn pair(
     rt: Reg,
 ) -> Result<(), Trap>
     requires { log.old.items ≡ [] }
-    ensures done { access (A64Form.Pair opc v mode l imm7 rt2 rn rt) core.old vec.old mem.old.memory
+    ensures done { load_store (A64Form.Pair opc v mode l imm7 rt2 rn rt) core.old vec.old mem.old.memory
         ≡ ended result core.new vec.new mem.new.memory log.new.items }
     ensures marks { mem.new.marks ≡ mem.old.marks }
 {

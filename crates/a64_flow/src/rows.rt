@@ -1,7 +1,7 @@
 //! The rows that load or store general registers. Each tests SP where it is the base, then the address where the row
 //! asks for alignment, and then its elements one after the other. What comes behind is done where none was refused.
 ghost use Rattle.std.specs.Prelude.{◌≡◌, []};
-ghost use Rattle.a64_effects.specs.Groups.{access};
+ghost use Rattle.a64_effects.specs.Groups.{load_store};
 ghost use Rattle.a64_flow.specs.Ends.{ended};
 
 use crate::offsets::ls_literal;
@@ -21,7 +21,7 @@ pub(crate) fn access(
     i: &A64,
 ) -> Result<(), Trap>
     requires { log.old.items ≡ [] }
-    ensures done { access i.now core.old vec.old mem.old.memory
+    ensures done { load_store i.now core.old vec.old mem.old.memory
         ≡ ended result core.new vec.new mem.new.memory log.new.items }
     ensures marks { mem.new.marks ≡ mem.old.marks }
 {

@@ -3,7 +3,7 @@
 //! others.
 ghost use Rattle.std.specs.Prelude.{◌≡◌, [], true, IfSome};
 ghost use Rattle.a64_insn.specs.declared.form.A64Form.{A64Form};
-ghost use Rattle.a64_effects.specs.Groups.{access};
+ghost use Rattle.a64_effects.specs.Groups.{load_store};
 ghost use Rattle.a64_effects.specs.LoadStore.{transferred_by};
 ghost use Rattle.a64_flow.specs.Ends.{ended};
 ghost use Rattle.a64_flow.specs.Groups.{is_single};
@@ -42,7 +42,7 @@ pub(crate) fn exec(
 ) -> Result<(), Trap>
     requires own { is_single i.now ≡ true }
     requires empty { log.old.items ≡ [] }
-    ensures done { access i.now core.old vec.old mem.old.memory
+    ensures done { load_store i.now core.old vec.old mem.old.memory
         ≡ ended result core.new vec.new mem.new.memory log.new.items }
     ensures marks { mem.new.marks ≡ mem.old.marks }
 {
@@ -59,7 +59,7 @@ pub(crate) fn exec(
 fn attempted(core: &mut Core, mem: &mut Mem, log: &mut AccessLog, i: &A64) -> Option<Single>
     requires own { is_single i.now ≡ true }
     requires empty { log.old.items ≡ [] }
-    ensures tried { IsTried (access i.now core.old) result
+    ensures tried { IsTried (load_store i.now core.old) result
         core.old core.new mem.old.memory mem.new.memory log.new.items }
     ensures marks { mem.new.marks ≡ mem.old.marks }
 {

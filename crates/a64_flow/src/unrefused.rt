@@ -6,7 +6,7 @@ ghost use Rattle.emu_model.specs.declared.access.Kind.{Kind};
 ghost use Rattle.emu_model.specs.Elements.{reach};
 ghost use Rattle.a64_effects.specs.LoadStore as table;
 ghost use Rattle.a64_effects.specs.LoadStore.{transferred_by};
-ghost use Rattle.a64_effects.specs.Operations.{from_base};
+ghost use Rattle.a64_effects.specs.Operations.{one_transfer};
 ghost use Rattle.a64_flow.specs.Ends.{done_with, greatest_of};
 ghost use Rattle.vec_regs.specs.Packed.{IsLowSize};
 
@@ -27,7 +27,7 @@ use vec_regs::VecRegs;
 pub(crate) fn moved_general(core: &mut Core, mem: &mut Mem, log: &mut AccessLog, s: &Single) -> bool
     requires { log.old.items ≡ [] }
     ensures done { result ≡ true → (w : Vectors) → (after : CoreState → CoreState)
-        → transferred_by (from_base s.now.v s.now.size s.now.opc s.now.rn s.now.rt s.now.address after)
+        → transferred_by (one_transfer s.now.v s.now.size s.now.opc s.now.rn s.now.rt s.now.address after)
         core.old w mem.old.memory
         ≡ done_with after core.new w mem.new.memory log.new.items }
     ensures core { result ≡ false → core.new ≡ core.old }
@@ -57,7 +57,7 @@ pub(crate) fn moved(
 ) -> bool
     requires { log.old.items ≡ [] }
     ensures done { result ≡ true → (after : CoreState → CoreState)
-        → transferred_by (from_base s.now.v s.now.size s.now.opc s.now.rn s.now.rt s.now.address after)
+        → transferred_by (one_transfer s.now.v s.now.size s.now.opc s.now.rn s.now.rt s.now.address after)
         core.old vec.old mem.old.memory
         ≡ done_with after core.new vec.new mem.new.memory log.new.items }
     ensures core { result ≡ false → core.new ≡ core.old }

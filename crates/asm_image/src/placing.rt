@@ -17,7 +17,7 @@ ghost use Rattle.asm_image.specs.Draft.{
 ghost use Rattle.asm_text.specs.Aimable.{IsAimable};
 ghost use Rattle.listing_model.specs.declared.directive.Directive.TheVariants as Directive;
 ghost use Rattle.listing_model.specs.declared.line.Body.TheVariants as Body;
-ghost use Rattle.listing_model.specs.Layout.{Layout, entry_of, filling, is_instruction, number_piece, placed_line};
+ghost use Rattle.listing_model.specs.Layout.{Layout, entry_of, padding, is_instruction, number_piece, placed_line};
 
 use crate::draft::{Draft, Gap, MOST_BSS, Stop};
 use crate::labels::Place;
@@ -29,7 +29,7 @@ use std::alloc::Global;
 
 /// Bytes from a place up to a multiple of `to`.
 fn filling_at(to: u32, place: u32) -> u32
-    ensures { result ≡ filling to place }
+    ensures { result ≡ padding to place }
 {
     if to == 0 { 0 } else { (to - place % to) % to }
 }

@@ -12,7 +12,7 @@ use Rattle.text_model.specs.declared.slots.Slot.{Slot}
 use Rattle.text_model.specs.Reading.{Pattern}
 use Rattle.text_model.specs.Writing.{◌to◌, bits, times, signed_times, of, counted, perhaps, inside, bracketed, braced, row, put_at}
 use Rattle.asm_sve.specs.Operands.{separated, all_sizes, z_class, letter, sized, pg, register, p_zeroing}
-use Rattle.asm_sve.specs.Places.{zt, loaded, stored, many, base, in_lengths, imm_place, reg_place}
+use Rattle.asm_sve.specs.Places.{zt, loading, storing, many, base, in_lengths, imm_place, reg_place}
 
 -- ---- loads of elements into lanes of any size
 
@@ -37,7 +37,7 @@ by_dtype =
 abbrev pub loads : {F : Type 0} → Line F → List ℕ → (ℕ → ℕ) → (ℕ → List Slot) → ℕ → List Loaded → List Pattern
 loads l name settled place k [] = []
 loads l name settled place k (d ∷ ds) =
-    row l 0 (settled k) (name ++ d.letters) (loaded (z_class d.lane) (place d.element))
+    row l 0 (settled k) (name ++ d.letters) (loading (z_class d.lane) (place d.element))
     ∷ loads l name settled place (k + 1) ds
 
 unfoldable pub load_imm_texts : List Pattern
@@ -65,11 +65,11 @@ load_one_texts = loads load_one (codes "ld1r") (λ k. put_at 23 (k / 4) + put_at
 
 abbrev pub load_same : {F : Type 0} → Line F → List ℕ → (ℕ → List Slot) → List Pattern
 load_same l name place =
-    sized all_sizes (λ s. row l 0 (put_at 23 s) (name ++ letter s) (loaded (z_class s) (place s)) ∷ [])
+    sized all_sizes (λ s. row l 0 (put_at 23 s) (name ++ letter s) (loading (z_class s) (place s)) ∷ [])
 
 abbrev pub store_same : {F : Type 0} → Line F → List ℕ → (ℕ → List Slot) → List Pattern
 store_same l name place =
-    sized all_sizes (λ s. row l 0 (put_at 23 s) (name ++ letter s) (stored (z_class s) (place s)) ∷ [])
+    sized all_sizes (λ s. row l 0 (put_at 23 s) (name ++ letter s) (storing (z_class s) (place s)) ∷ [])
 
 unfoldable pub load_nt_imm_texts : List Pattern
 load_nt_imm_texts = load_same load_nt_imm (codes "ldnt1") (λ s. imm_place 1)

@@ -13,7 +13,7 @@ use Rattle.text_model.specs.declared.slots.Slot.{Slot}
 use Rattle.text_model.specs.Reading.{Pattern}
 use Rattle.text_model.specs.Writing.{◌to◌, bits, times, of, then, counted, amount, perhaps, inside, bracketed, row, put_at}
 use Rattle.asm_sve.specs.Operands.{letter, sized, zn, zm}
-use Rattle.asm_sve.specs.Places.{loaded, stored, base, scaled}
+use Rattle.asm_sve.specs.Places.{loading, storing, base, scaled}
 
 -- ---- places; s is msz
 
@@ -57,7 +57,7 @@ abbrev pub gathers_named : {F : Type 0} → Line F → List ℕ → ℕ → Clas
 gathers_named l name ff lanes place [] = []
 gathers_named l name ff lanes place (g ∷ gs) =
     row l 0 (put_at 23 g.element + (put_at 14 g.unsigned + put_at 13 ff)) (name ++ g.letters)
-    (loaded lanes (place g.element)) ∷ gathers_named l name ff lanes place gs
+    (loading lanes (place g.element)) ∷ gathers_named l name ff lanes place gs
 
 abbrev pub gathers : {F : Type 0} → Line F → Class → (ℕ → List Slot) → List Gathered → List Pattern
 gathers l lanes place gs =
@@ -92,7 +92,7 @@ gather_dv_texts = gathers gather_dv Zd (vector_place Zd) (of_bytes ++ scaled_dou
 
 abbrev pub scatters : {F : Type 0} → Line F → Class → List ℕ → (ℕ → List Slot) → List Pattern
 scatters l lanes sizes place =
-    sized sizes (λ s. row l 0 (put_at 23 s) (codes "st1" ++ letter s) (stored lanes (place s)) ∷ [])
+    sized sizes (λ s. row l 0 (put_at 23 s) (codes "st1" ++ letter s) (storing lanes (place s)) ∷ [])
 
 unfoldable pub scatter_sx_texts : List Pattern
 scatter_sx_texts = scatters scatter_sx Zs (0 ∷ 1 ∷ 2 ∷ []) (λ s. extended_place Zs (14 to 14) [])

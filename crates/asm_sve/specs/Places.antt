@@ -18,12 +18,12 @@ abbrev pub zt : Bits
 zt = 4 to 0
 
 -- {Zt.T}, Pg/z, place
-abbrev pub loaded : Class → List Slot → List Slot
-loaded lanes place = separated (braced (register lanes zt) ∷ p_zeroing pg ∷ place ∷ [])
+abbrev pub loading : Class → List Slot → List Slot
+loading lanes place = separated (braced (register lanes zt) ∷ p_zeroing pg ∷ place ∷ [])
 
 -- {Zt.T}, Pg, place
-abbrev pub stored : Class → List Slot → List Slot
-stored lanes place = separated (braced (register lanes zt) ∷ register P pg ∷ place ∷ [])
+abbrev pub storing : Class → List Slot → List Slot
+storing lanes place = separated (braced (register lanes zt) ∷ register P pg ∷ place ∷ [])
 
 -- r registers, the first of them the one k places behind Zt, modulo 32
 abbrev pub registers : ℕ → ℕ → Class → List (List Slot)

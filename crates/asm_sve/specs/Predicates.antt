@@ -13,21 +13,21 @@ use Rattle.text_model.specs.Writing.{◌to◌, bits, of, then, perhaps, inside, 
 use Rattle.asm_sve.specs.Operands.{separated, all_sizes, z_class, p_class, ended, sized, zdn, zn, zm, rd, rdn, rn, rm, pd, pn, pm, pg, pg_13_10, register, z_at, p_at, p_zeroing, p_either, unsigned_at, signed_at, named_pattern, pattern_number}
 
 -- Comparisons of vectors are written size by size: lanes of 64 bits have the operands of the wide ones.
-abbrev pub compared : ℕ → List Slot → List Slot
-compared s y = separated (register (p_class s) pd ∷ p_zeroing pg ∷ register (z_class s) zn ∷ y ∷ [])
+abbrev pub compare_slots : ℕ → List Slot → List Slot
+compare_slots s y = separated (register (p_class s) pd ∷ p_zeroing pg ∷ register (z_class s) zn ∷ y ∷ [])
 
 unfoldable pub cmp_vec_texts : List Pattern
 cmp_vec_texts = sized all_sizes (λ s. rows cmp_vec 0 (put_at 22 s)
     (codes "cmphs" ∷ codes "cmphi" ∷ codes "cmpge" ∷ codes "cmpgt" ∷ codes "cmpeq" ∷ codes "cmpne" ∷ [])
-    (compared s (register (z_class s) zm)))
+    (compare_slots s (register (z_class s) zm)))
 
 -- those that compare with wide lanes alone have no other operands
 unfoldable pub cmp_wide_texts : List Pattern
 cmp_wide_texts =
     sized (0 ∷ 1 ∷ 2 ∷ []) (λ s.
     rows cmp_wide 0 (put_at 22 s) (codes "cmpeq" ∷ codes "cmpne" ∷ codes "cmpge" ∷ codes "cmpgt" ∷ [])
-    (compared s (register Zd zm))
-    ++ rows cmp_wide 6 (put_at 22 s) (codes "cmphs" ∷ codes "cmphi" ∷ []) (compared s (register Zd zm)))
+    (compare_slots s (register Zd zm))
+    ++ rows cmp_wide 6 (put_at 22 s) (codes "cmphs" ∷ codes "cmphi" ∷ []) (compare_slots s (register Zd zm)))
     ++ (rows cmp_wide 4 0 (codes "cmplt" ∷ codes "cmple" ∷ [])
     (separated (p_at pd ∷ p_zeroing pg ∷ z_at zn ∷ register Zd zm ∷ []))
     ++ rows cmp_wide 8 0 (codes "cmplo" ∷ codes "cmpls" ∷ [])

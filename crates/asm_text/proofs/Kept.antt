@@ -11,7 +11,7 @@ use Rattle.text_model.specs.declared.slots.Shape.TheVariants.{Only, Told, Shown}
 use Rattle.text_model.specs.declared.slots.Slot.{Slot}
 use Rattle.text_model.specs.declared.slots.Item.{Item}
 use Rattle.text_model.specs.Slots.{places, bits_in}
-use Rattle.text_model.specs.Told.{Binding, class_tells, told, parted, codec_tells, slot_tells, Built, bound, all_bound, built}
+use Rattle.text_model.specs.Told.{Binding, class_tells, told_number, parted, codec_tells, slot_tells, Built, bound, all_bound, built}
 use Rattle.text_model.specs.Reading.{Pattern, word_told}
 use Rattle.text_model.specs.Text.{class_places, slot_places}
 use Rattle.text_model.proofs.Building.{places_of, put_both}
@@ -69,7 +69,7 @@ parts_keep a ps v m h = all_keep a (parted ps v) m (ap (are_clear m) (parts_told
 slot_keeps : (a : Built) (s : Slot) (i : Item) (m : ℕ) → are_clear m (slot_places s) ≡ true → bit_and (all_bound a (slot_tells s i)).word m ≡ bit_and a.word m
 slot_keeps a s i m h =
     let h2 = clear_both m (class_places s.shape) (places s.codec.parts) h in
-    let v : ℕ = told s.codec.kind (bits_in (places s.codec.parts)) i.value in
+    let v : ℕ = told_number s.codec.kind (bits_in (places s.codec.parts)) i.value in
     ap (λ (x : Built). bit_and x.word m) (put_both a (class_tells s.shape i.class) (codec_tells s.codec i.value))
     ∙ parts_keep (all_bound a (class_tells s.shape i.class)) (places s.codec.parts) v m h2.1
     ∙ class_keeps a s.shape i.class m h2.0

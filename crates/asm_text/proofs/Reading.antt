@@ -10,7 +10,7 @@ use Rattle.asm_text.specs.Stored.{AreStored, Adds, Keeps}
 use Rattle.asm_tokens.specs.declared.target.Target.{Target}
 use Rattle.listing_model.specs.declared.fault.ListingWhy.{ListingWhy}
 use Rattle.listing_model.specs.declared.fault.ListingWhy.TheVariants.{BadOperands, OutOfRange}
-use Rattle.listing_model.specs.Directives.{Argument, argument, arguments, all_some, with_first, stored, numbers}
+use Rattle.listing_model.specs.Directives.{Argument, argument, arguments, all_some, with_first, target_in, numbers}
 use Rattle.asm_tokens.specs.Tokens.{tokens}
 
 -- these arguments in front of others
@@ -71,27 +71,27 @@ still_none f (z ∷ zs) x h = go (f z) (all_some (map f zs)) refl refl h (λ q. 
     go (Some u) (Some us) p q e more = cc
 
 -- an argument that fits is pushed
-pub pushed : (size : ℕ) (xs : List Argument) (x : Argument) (y : Target) (old new : Numbers) → stored (8 * size) x ≡ Some y
+pub pushed : (size : ℕ) (xs : List Argument) (x : Argument) (y : Target) (old new : Numbers) → target_in (8 * size) x ≡ Some y
     → new.items.items ≡ old.items.items ++ y ∷ [] → new.fit ≡ old.fit → AreStored size xs old → AreStored size (xs ++ x ∷ []) new
 pushed size xs x y old new h k e s = go old.fit refl s
   where
     go : (b : Bool) → old.fit ≡ b
-        → MatchBool b (all_some (map (stored (8 * size)) xs) ≡ Some old.items.items) (all_some (map (stored (8 * size)) xs) ≡ None)
+        → MatchBool b (all_some (map (target_in (8 * size)) xs) ≡ Some old.items.items) (all_some (map (target_in (8 * size)) xs) ≡ None)
         → AreStored size (xs ++ x ∷ []) new
     go true q r =
-        let P : Bool → Type 0 = λ b. MatchBool b (all_some (map (stored (8 * size)) (xs ++ x ∷ [])) ≡ Some new.items.items) (all_some (map (stored (8 * size)) (xs ++ x ∷ [])) ≡ None) in
-        subst P (sym (e ∙ q)) (one_more (stored (8 * size)) xs x old.items.items y r h ∙ ap Some (sym k))
+        let P : Bool → Type 0 = λ b. MatchBool b (all_some (map (target_in (8 * size)) (xs ++ x ∷ [])) ≡ Some new.items.items) (all_some (map (target_in (8 * size)) (xs ++ x ∷ [])) ≡ None) in
+        subst P (sym (e ∙ q)) (one_more (target_in (8 * size)) xs x old.items.items y r h ∙ ap Some (sym k))
     go false q r =
-        let P : Bool → Type 0 = λ b. MatchBool b (all_some (map (stored (8 * size)) (xs ++ x ∷ [])) ≡ Some new.items.items) (all_some (map (stored (8 * size)) (xs ++ x ∷ [])) ≡ None) in
-        subst P (sym (e ∙ q)) (still_none (stored (8 * size)) xs x r)
+        let P : Bool → Type 0 = λ b. MatchBool b (all_some (map (target_in (8 * size)) (xs ++ x ∷ [])) ≡ Some new.items.items) (all_some (map (target_in (8 * size)) (xs ++ x ∷ [])) ≡ None) in
+        subst P (sym (e ∙ q)) (still_none (target_in (8 * size)) xs x r)
 
 -- one that doesn't is noted
-pub noted : (size : ℕ) (xs : List Argument) (x : Argument) (new : Numbers) → stored (8 * size) x ≡ None → new.fit ≡ false → AreStored size (xs ++ x ∷ []) new
+pub noted : (size : ℕ) (xs : List Argument) (x : Argument) (new : Numbers) → target_in (8 * size) x ≡ None → new.fit ≡ false → AreStored size (xs ++ x ∷ []) new
 noted size xs x new h e =
-    let P : Bool → Type 0 = λ b. MatchBool b (all_some (map (stored (8 * size)) (xs ++ x ∷ [])) ≡ Some new.items.items) (all_some (map (stored (8 * size)) (xs ++ x ∷ [])) ≡ None) in
-    subst P (sym e) (misfit (stored (8 * size)) xs x h)
+    let P : Bool → Type 0 = λ b. MatchBool b (all_some (map (target_in (8 * size)) (xs ++ x ∷ [])) ≡ Some new.items.items) (all_some (map (target_in (8 * size)) (xs ++ x ∷ [])) ≡ None) in
+    subst P (sym e) (misfit (target_in (8 * size)) xs x h)
 
-pub kept : (size : ℕ) (xs : List Argument) (x : Argument) (o : Option Target) (old new : Numbers) → stored (8 * size) x ≡ o → Keeps o old new
+pub kept : (size : ℕ) (xs : List Argument) (x : Argument) (o : Option Target) (old new : Numbers) → target_in (8 * size) x ≡ o → Keeps o old new
     → AreStored size xs old → AreStored size (xs ++ x ∷ []) new
 kept size xs x None old new h k s = noted size xs x new h k
 kept size xs x (Some y) old new h k s = pushed size xs x y old new h k.0 k.1 s
@@ -156,13 +156,13 @@ no_argument labels size all text start n h e =
 pub all_fit : (labels : Bool) (size : ℕ) (all : List (List ℕ)) (n : Numbers) → AllRead labels size all n → n.fit ≡ true
     → numbers size (arguments labels all) ≡ Ok n.items.items
 all_fit labels size all n h e =
-    let P : Bool → Type 0 = λ b. MatchBool b (all_some (map (stored (8 * size)) h.read) ≡ Some n.items.items) (all_some (map (stored (8 * size)) h.read) ≡ None) in
+    let P : Bool → Type 0 = λ b. MatchBool b (all_some (map (target_in (8 * size)) h.read) ≡ Some n.items.items) (all_some (map (target_in (8 * size)) h.read) ≡ None) in
     ap (numbers size) h.is ∙ ap (λ (o : Option (List Target)). ok_or o OutOfRange) (subst P e h.stored_are)
 
 pub not_all_fit : (labels : Bool) (size : ℕ) (all : List (List ℕ)) (n : Numbers) → AllRead labels size all n → n.fit ≡ false
     → numbers size (arguments labels all) ≡ Err OutOfRange
 not_all_fit labels size all n h e =
-    let P : Bool → Type 0 = λ b. MatchBool b (all_some (map (stored (8 * size)) h.read) ≡ Some n.items.items) (all_some (map (stored (8 * size)) h.read) ≡ None) in
+    let P : Bool → Type 0 = λ b. MatchBool b (all_some (map (target_in (8 * size)) h.read) ≡ Some n.items.items) (all_some (map (target_in (8 * size)) h.read) ≡ None) in
     ap (numbers size) h.is ∙ ap (λ (o : Option (List Target)). ok_or o OutOfRange) (subst P e h.stored_are)
 
 pub refused_list : (labels : Bool) (size : ℕ) (all : List (List ℕ)) (text : List ℕ) (start : ℕ) (n : Numbers) (o : Option ListingWhy)

@@ -19,7 +19,7 @@ use Rattle.asm_sve.specs.Table.{sve_patterns}
 use Rattle.text_model.specs.declared.slots.Refusal.{Refusal}
 use Rattle.text_model.specs.declared.slots.Refusal.TheVariants as refusal
 use Rattle.text_model.specs.Aim.{aimed}
-use Rattle.text_model.specs.Reading.{later}
+use Rattle.text_model.specs.Reading.{later_refusal}
 use Rattle.text_model.specs.Statement.{Destination, to_label, to_address, Statement, reads_tokens}
 
 -- ---- refusals
@@ -45,7 +45,7 @@ made insn table s =
 abbrev pub either : Result Statement Refusal → Result Statement Refusal → Result (Insn × Option Target) ListingWhy
 either (Ok s) other = made A64 a64_table s
 either (Err e) (Ok s) = made Sve sve_table s
-either (Err e) (Err g) = Err (why_of (later e g))
+either (Err e) (Err g) = Err (why_of (later_refusal e g))
 
 abbrev pub reads : List ℕ → List (List ℕ) → Result (Insn × Option Target) ListingWhy
 reads name ts =

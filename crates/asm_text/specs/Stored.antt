@@ -48,8 +48,8 @@ pub record IsPart (labels : Bool) (text : List ℕ) (start : ℕ) (a : directive
 -- these are what is stored of some arguments, unless one of them doesn't fit
 abbrev pub AreStored : ℕ → List directives.Argument → Numbers → Type 0
 AreStored size xs n =
-    MatchBool n.fit (directives.all_some (map (directives.stored (8 * size)) xs) ≡ Some n.items.items)
-    (directives.all_some (map (directives.stored (8 * size)) xs) ≡ None)
+    MatchBool n.fit (directives.all_some (map (directives.target_in (8 * size)) xs) ≡ Some n.items.items)
+    (directives.all_some (map (directives.target_in (8 * size)) xs) ≡ None)
 
 -- an argument is read and stored behind those before
 pub record Adds (labels : Bool) (size : ℕ) (text : List ℕ) (start : ℕ) (old new : Numbers) (next : Option ℕ) : Type 0 where

@@ -3,7 +3,7 @@ ghost use Rattle.std.specs.Prelude.{◌≡◌, ◌≢◌};
 ghost use Rattle.asm_text.specs.Statements.{statements};
 ghost use Rattle.asm_text.specs.Targets.{HasTarget};
 ghost use Rattle.text_code.specs.Faults.{fault_of};
-ghost use Rattle.text_model.specs.Reading.{later};
+ghost use Rattle.text_model.specs.Reading.{later_refusal};
 ghost use Rattle.text_model.specs.declared.slots.Refusal.{Refusal};
 
 use crate::Instructions;
@@ -19,7 +19,7 @@ pub struct Tables;
 
 /// The refusal that stands later in the order in which causes are looked for.
 fn later(a: AsmFault, b: AsmFault) -> AsmFault
-    ensures later { (x y : Refusal) → a ≡ fault_of x → b ≡ fault_of y → result ≡ fault_of (later x y) }
+    ensures later { (x y : Refusal) → a ≡ fault_of x → b ≡ fault_of y → result ≡ fault_of (later_refusal x y) }
     ensures refusal { result ≢ AsmFault.OutOfMemory }
 {
     match (a, b) {

@@ -129,7 +129,7 @@ fn stored(
     requires cut { MayBeCut text.now argument }
     requires some { 1 ≤ size }
     requires few { size ≤ 8 }
-    ensures { IfOk result (λ t. t ≡ directives.stored (8 * size) (argument_of text.now argument)) }
+    ensures { IfOk result (λ t. t ≡ directives.target_in (8 * size) (argument_of text.now argument)) }
 {
     match argument {
         Argument::Number(x) => Ok(stored_number(size, x).map(Target::Address)),

@@ -40,8 +40,8 @@ pub fn exec(core: &mut Core, vec: &mut VecRegs, i: &A64) -> Effect
 
 /// A copy between a general and a vector register.
 fn copy(core: &mut Core, vec: &mut VecRegs, op: FMoveOp, rn: Reg, rd: Reg)
-    ensures core { core.new ≡ (table.copied op rn rd core.old vec.old).core }
-    ensures vectors { vec.new ≡ (table.copied op rn rd core.old vec.old).vectors }
+    ensures core { core.new ≡ (table.after_fmov op rn rd core.old vec.old).core }
+    ensures vectors { vec.new ≡ (table.after_fmov op rn rd core.old vec.old).vectors }
 {
     let _length = vec.length();
     match op {

@@ -23,7 +23,7 @@ use Rattle.command_model.specs.declared.command_line.WordsWhy.{WordsWhy}
 use Rattle.command_model.specs.declared.command_line.WordsWhy.TheVariants.{Repeated, MissingValue, BadNumber, BadLength, OutOfRange, ExtraWord, MissingWord}
 use Rattle.line_words.specs.Refusals.{and_then}
 use Rattle.command_model.specs.CommandLine.{decimal_of_word, named_command, option_of, usage_of}
-use Rattle.command_lines.specs.Scan.{Seen, args_said, checked_value, checked_word, end_of, given, is_option, line_said, nothing_seen, pages_said, read_further, read_item, read_number, read_option, read_plain, read_value, read_word, read_words, refused, scanned_command, scanned_line, with_budget, with_machine, with_plain, with_value, with_word}
+use Rattle.command_lines.specs.Scan.{Seen, args_said, checked_value, checked_word, end_of, given, is_option, line_said, nothing_seen, pages_said, read_further, read_item, read_number, read_option, read_plain, read_value, read_word, read_words, refusal_at, scanned_command, scanned_line, with_budget, with_machine, with_plain, with_value, with_word}
 use Rattle.command_lines.specs.Outcome.{program_arguments}
 use Rattle.command_lines.specs.LineLimits.{HasArguments, HasLimit, HasPlaces}
 
@@ -72,7 +72,7 @@ within_value seen place option (Err why) within = tt
 within_option : (seen : Seen) (place : ℕ) (option : Option OptionName) → IsWithin place seen → IfOk (read_option seen place option) (IsWithin (place + 1))
 within_option seen place None within = tt
 within_option seen place (Some option) within =
-    if_either (IsWithin (place + 1)) (is_some (given option seen)) (refused Repeated place) (Ok (record seen { awaited = Some option })) (λ _. tt) (λ _. later seen.args seen.plain_places place within)
+    if_either (IsWithin (place + 1)) (is_some (given option seen)) (refusal_at Repeated place) (Ok (record seen { awaited = Some option })) (λ _. tt) (λ _. later seen.args seen.plain_places place within)
 
 plain_more : (args : Option ℕ) (places : List ℕ) (place : ℕ) → None ≡ args → AreBehind args places place → AreBehind args (places ++ place ∷ []) (place + 1)
 plain_more None places place none all = All-append (λ p. p < place + 1) places (place ∷ []) (below_more place (place + 1) places (omega arith) all) (below_one (place + 1) place (omega arith))
@@ -93,7 +93,7 @@ within_further command seen place word none within =
 
 within_plain : (command : Command) (seen : Seen) (place : ℕ) (word : List ℕ) → None ≡ seen.args → IsWithin place seen → IfOk (read_plain command seen place word) (IsWithin (place + 1))
 within_plain command seen place word none within =
-    if_either (IsWithin (place + 1)) (nat_lt (length seen.plain_places) (usage_of command).words) (read_further command seen place word) (refused ExtraWord place)
+    if_either (IsWithin (place + 1)) (nat_lt (length seen.plain_places) (usage_of command).words) (read_further command seen place word) (refusal_at ExtraWord place)
     (λ _. within_further command seen place word none within) (λ _. tt)
 
 within_item : (command : Command) (seen : Seen) (place : ℕ) (word : List ℕ) → None ≡ seen.args → IsWithin place seen → IfOk (read_item command seen place word) (IsWithin (place + 1))
@@ -144,12 +144,12 @@ got_below n places k place all got =
     omega (arith, get_or_from_slice_get places k place 0 got)
 
 -- a line that needs a plain word
-with_place : (P : Line → Type 0) (count : ℕ) (o : Option ℕ) (next : ℕ → Result Line WordsFault) → ((place : ℕ) → o ≡ Some place → IfOk (next place) P) → IfOk (option_map_or next o (refused MissingWord count)) P
+with_place : (P : Line → Type 0) (count : ℕ) (o : Option ℕ) (next : ℕ → Result Line WordsFault) → ((place : ℕ) → o ≡ Some place → IfOk (next place) P) → IfOk (option_map_or next o (refusal_at MissingWord count)) P
 with_place P count None next step = tt
 with_place P count (Some place) next step = step place refl
 
 -- a line that needs a number
-with_number : (P : Line → Type 0) (count : ℕ) (number : Option ℕ) (said : ℕ → Line) → ((n : ℕ) → P (said n)) → IfOk (option_map_or (λ n. Ok (said n)) number (refused MissingWord count)) P
+with_number : (P : Line → Type 0) (count : ℕ) (number : Option ℕ) (said : ℕ → Line) → ((n : ℕ) → P (said n)) → IfOk (option_map_or (λ n. Ok (said n)) number (refusal_at MissingWord count)) P
 with_number P count None said holds = tt
 with_number P count (Some number) said holds = holds number
 
@@ -198,7 +198,7 @@ module _ (count : ℕ) (seen : Seen) (within : IsWithin count seen) where
 
 places_of : (command : Command) (count : ℕ) (seen : Seen) → IsWithin count seen → IfOk (end_of command count seen) (λ l. HasPlaces l count)
 places_of command count seen within =
-    if_either (λ l. HasPlaces l count) (is_some seen.awaited) (refused MissingValue (count - 1)) (line_said command count seen) (λ _. tt) (λ _. line_places count seen within command)
+    if_either (λ l. HasPlaces l count) (is_some seen.awaited) (refusal_at MissingValue (count - 1)) (line_said command count seen) (λ _. tt) (λ _. line_places count seen within command)
 
 command_places : (words : List (List ℕ)) (command : Option Command) → 0 < length words → IfOk (scanned_command words command) (λ l. HasPlaces l (length words))
 command_places words None some = tt
@@ -245,7 +245,7 @@ value_read_fits seen place option (Err why) is fits = tt
 
 option_fits : (seen : Seen) (place : ℕ) (option : Option OptionName) → Fits seen → IfOk (read_option seen place option) Fits
 option_fits seen place None fits = tt
-option_fits seen place (Some option) fits = if_either Fits (is_some (given option seen)) (refused Repeated place) (Ok (record seen { awaited = Some option })) (λ _. tt) (λ _. fits)
+option_fits seen place (Some option) fits = if_either Fits (is_some (given option seen)) (refusal_at Repeated place) (Ok (record seen { awaited = Some option })) (λ _. tt) (λ _. fits)
 
 number_read_fits : (seen : Seen) (place : ℕ) (number : Option ℕ) → Fits seen → IfOk (read_number seen place number) Fits
 number_read_fits seen place None fits = tt
@@ -253,7 +253,7 @@ number_read_fits seen place (Some number) fits = fits
 
 plain_fits : (command : Command) (seen : Seen) (place : ℕ) (word : List ℕ) → Fits seen → IfOk (read_plain command seen place word) Fits
 plain_fits command seen place word fits =
-    if_either Fits (nat_lt (length seen.plain_places) (usage_of command).words) (read_further command seen place word) (refused ExtraWord place)
+    if_either Fits (nat_lt (length seen.plain_places) (usage_of command).words) (read_further command seen place word) (refusal_at ExtraWord place)
     (λ _. if_either Fits ((usage_of command).number) (read_number seen place (decimal_of_word word)) (Ok (with_word seen place)) (λ _. number_read_fits seen place (decimal_of_word word) fits) (λ _. fits))
     (λ _. tt)
 
@@ -301,7 +301,7 @@ module _ (count : ℕ) (seen : Seen) (fits : Fits seen) where
   line_limit Threads = two_files HasLimit count seen (λ file schedule bits budget. ThreadsLine file schedule (args_said count seen) bits budget (pages_said seen)) (λ file schedule bits budget _ _. few)
 
 limit_of : (command : Command) (count : ℕ) (seen : Seen) → Fits seen → IfOk (end_of command count seen) HasLimit
-limit_of command count seen fits = if_either HasLimit (is_some seen.awaited) (refused MissingValue (count - 1)) (line_said command count seen) (λ _. tt) (λ _. line_limit count seen fits command)
+limit_of command count seen fits = if_either HasLimit (is_some seen.awaited) (refusal_at MissingValue (count - 1)) (line_said command count seen) (λ _. tt) (λ _. line_limit count seen fits command)
 
 command_limit : (words : List (List ℕ)) (command : Option Command) → IfOk (scanned_command words command) HasLimit
 command_limit words None = tt

@@ -25,7 +25,7 @@ use Rattle.command_model.specs.declared.command_line.WordsWhy.{WordsWhy}
 use Rattle.command_model.specs.declared.command_line.WordsWhy.TheVariants.{TooManyWords, WordsTooLong, ZeroByte, UnknownCommand, Repeated, MissingValue, BadNumber, BadLength, OutOfRange, ExtraWord, MissingWord, MissingLength, MissingBudget}
 use Rattle.line_words.specs.Refusals.{and_then}
 use Rattle.command_model.specs.CommandLine.{ArgumentWord, OptionWord, PlainWord, Role, ValueWord, WordAt, named_command, decimal_of_word, fault_at, first_refusal, usage_of, is_argument, is_plain_word, is_value_of, accepted_line, line, line_of_command, line_of_words, first_missing, option_of, plain_words, why_refused, role_behind, option_value, value_refusal, words_from}
-use Rattle.command_lines.specs.Scan.{Seen, checked_value, checked_word, end_of, given, is_option, line_said, nothing_seen, read_further, read_item, read_number, read_option, read_plain, read_value, read_word, read_words, refused, scanned_command, scanned_line, with_budget, with_machine, with_value, with_word}
+use Rattle.command_lines.specs.Scan.{Seen, checked_value, checked_word, end_of, given, is_option, line_said, nothing_seen, read_further, read_item, read_number, read_option, read_plain, read_value, read_word, read_words, refusal_at, scanned_command, scanned_line, with_budget, with_machine, with_value, with_word}
 
 -- ---- what was seen, by the words so far
 
@@ -172,7 +172,7 @@ after command count place words so_far = and_then (read_words command so_far pla
 -- what comes of a word: its why_refused, or what comes of the words behind it
 abbrev Step : Bool → Role → List WordAt → ℕ → ℕ → (Seen → Result Line WordsFault) → Result Line WordsFault
     → Option WordsWhy → Type 0
-Step number role done place left next answer (Some why) = answer ≡ refused why place
+Step number role done place left next answer (Some why) = answer ≡ refusal_at why place
 Step number role done place left next answer None = (answer ≡ next (seen number done role)) × Stands role done left
     × Known number done
 
@@ -256,7 +256,7 @@ module _ (number : Bool) (command : Command) (done : List WordAt) (place : ℕ) 
       (after command count (place + 1) words (with_option option))
       (cond (nat_eq (length (words_from command (OptionWord (Some option)) (place + 1) words)) 0)
       (Some MissingValue) None)
-  option_first option count [] e none new = ap (λ (n : ℕ). refused {T = Line} MissingValue n) (omega arith)
+  option_first option count [] e none new = ap (λ (n : ℕ). refusal_at {T = Line} MissingValue n) (omega arith)
   option_first option count (value ∷ words) e none new =
       let role = OptionWord (Some option) in
       let kept = argument_kept done (at role) refl in
@@ -284,7 +284,7 @@ module _ (number : Bool) (command : Command) (done : List WordAt) (place : ℕ) 
       ≡ count → argument_in done ≡ None → is_some (option_value option done) ≡ b
       → Step number (OptionWord (Some option)) (more (OptionWord (Some option))) place (length words)
       (after command count (place + 1) words)
-      (and_then (cond b (refused Repeated place) (Ok (with_option option))) (after command count (place + 1) words))
+      (and_then (cond b (refusal_at Repeated place) (Ok (with_option option))) (after command count (place + 1) words))
       (cond b (Some Repeated) (cond (nat_eq
       (length (words_from command (OptionWord (Some option)) (place + 1) words)) 0) (Some MissingValue) None))
   option_again option count words true e none given = refl
@@ -300,7 +300,7 @@ module _ (number : Bool) (command : Command) (done : List WordAt) (place : ℕ) 
   option_word (Some option) count words e none =
       subst (λ (o : Option ℕ). Step number (OptionWord (Some option)) (more (OptionWord (Some option))) place
       (length words) (after command count (place + 1) words)
-      (and_then (cond (is_some o) (refused Repeated place) (Ok (with_option option)))
+      (and_then (cond (is_some o) (refusal_at Repeated place) (Ok (with_option option)))
       (after command count (place + 1) words))
       (why_refused command done (words_from command (OptionWord (Some option)) (place + 1) words)
       (OptionWord (Some option)) word))
@@ -363,7 +363,7 @@ plain_word : (number : Bool) (words : ℕ) (command : Command) (done : List Word
     → (number ≡ true → words ≡ 1) → argument_in done ≡ None → nat_lt (length (plain_words done)) words ≡ few
     → Step number PlainWord (done ++ (record { place = place; role = PlainWord; word = word }) ∷ []) place left next
     (and_then (cond few (cond number (read_number (seen number done PlainWord) place (decimal_of_word word))
-    (Ok (with_word (seen number done PlainWord) place))) (refused ExtraWord place)) next)
+    (Ok (with_word (seen number done PlainWord) place))) (refusal_at ExtraWord place)) next)
     (cond few (cond (number && is_none (decimal_of_word word)) (Some BadNumber) None) (Some ExtraWord))
 plain_word number words command done place word known next left false one none e = refl
 plain_word false words command done place word known next left true one none e = file_word command done place word
@@ -398,7 +398,7 @@ module _ (command : Command) (done : List WordAt) (place : ℕ) (word : List ℕ
   any_plain none =
       subst (λ (n : ℕ). StepTo PlainWord (and_then
       (cond (nat_lt n (usage_of command).words)
-      (read_further command (seen (usage_of command).number done PlainWord) place word) (refused ExtraWord place))
+      (read_further command (seen (usage_of command).number done PlainWord) place word) (refusal_at ExtraWord place))
       then))
       (sym (length-map (plain_words done) (λ (w : WordAt). w.place)))
       (plain_word (usage_of command).number (usage_of command).words command done place word known then (length words)
@@ -568,7 +568,7 @@ Said count why said = unless_fault (option_map (fault_at count) why) (Ok said)
 
 one_plain : (count : ℕ) (words : List WordAt) (why : Option WordsWhy) (next : ℕ → Result Line WordsFault)
     (said : ℕ → Line) → ((file : ℕ) → next file ≡ Said count why (said file))
-    → option_map_or next (slice_get (places words) 0) (refused MissingWord count)
+    → option_map_or next (slice_get (places words) 0) (refusal_at MissingWord count)
     ≡ Said count (cond (nat_lt (length words) 1) (Some MissingWord) why) (said (place_in words 0))
 one_plain count [] why next said same = refl
 one_plain count (w ∷ words) why next said same = same w.place
@@ -576,8 +576,8 @@ one_plain count (w ∷ words) why next said same = same w.place
 
 two_plain : (count : ℕ) (words : List WordAt) (why : Option WordsWhy) (next : ℕ → ℕ → Result Line WordsFault)
     (said : ℕ → ℕ → Line) → ((file other : ℕ) → next file other ≡ Said count why (said file other))
-    → option_map_or (λ file. option_map_or (next file) (slice_get (places words) 1) (refused MissingWord count))
-    (slice_get (places words) 0) (refused MissingWord count)
+    → option_map_or (λ file. option_map_or (next file) (slice_get (places words) 1) (refusal_at MissingWord count))
+    (slice_get (places words) 0) (refusal_at MissingWord count)
     ≡ Said count (cond (nat_lt (length words) 2) (Some MissingWord) why) (said (place_in words 0) (place_in words 1))
 two_plain count [] why next said same = refl
 two_plain count (w ∷ []) why next said same = refl
@@ -586,12 +586,12 @@ two_plain count (w ∷ v ∷ words) why next said same =
     (sym (none_below_two (length words)))
 
 number_there : (count : ℕ) (number : Option ℕ) → is_none number ≡ false
-    → option_map_or (λ n. Ok (LoadLine n)) number (refused MissingWord count) ≡ Ok (LoadLine (unwrap_or number 0))
+    → option_map_or (λ n. Ok (LoadLine n)) number (refusal_at MissingWord count) ≡ Ok (LoadLine (unwrap_or number 0))
 number_there count None known = absurd (cc)
 number_there count (Some n) known = refl
 
 number_plain : (count : ℕ) (words : List WordAt) → IsNumber true words
-    → option_map_or (λ number. Ok (LoadLine number)) (number_said true words) (refused MissingWord count)
+    → option_map_or (λ number. Ok (LoadLine number)) (number_said true words) (refusal_at MissingWord count)
     ≡ Said count (cond (nat_lt (length words) 1) (Some MissingWord) None)
     (LoadLine (unwrap_or (number_said true words) 0))
 number_plain count [] known = refl

@@ -65,16 +65,16 @@ written output = record { ending = Done; output = output; errors = []; taken = 0
 
 -- ---- files
 
--- with the bytes of a file, where it isn't too long
-abbrev pub with_bytes : List ℕ → (List ℕ → Option Outcome) → Option Outcome
-with_bytes file next =
+-- what is done with the bytes of a file, where they are no more than its limit
+abbrev pub within_file_limit : List ℕ → (List ℕ → Option Outcome) → Option Outcome
+within_file_limit file next =
     if nat_lt file_limit (length file) then Some (refusal (TooLong file_limit) (too_long_line file_limit))
     else next file
 
 -- with the bytes of a file; none where there is no file of that name
 abbrev pub with_file : Option (List ℕ) → (List ℕ → Option Outcome) → Option Outcome
 with_file None next = None
-with_file (Some file) next = with_bytes file next
+with_file (Some file) next = within_file_limit file next
 
 -- the bytes of the file that the word at a place names
 abbrev pub file_at : List (List ℕ) → Files → ℕ → Option (List ℕ)

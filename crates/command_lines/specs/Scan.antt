@@ -23,8 +23,8 @@ abbrev pub ReadsAs : {T U E : Type 0} → Result T E → T → Result U E → Ty
 ReadsAs expected left (Ok done) = expected ≡ Ok left
 ReadsAs expected left (Err refusal) = expected ≡ Err refusal
 
-abbrev pub refused : {T : Type 0} → WordsWhy → ℕ → Result T WordsFault
-refused why place = Err (fault_at place why)
+abbrev pub refusal_at : {T : Type 0} → WordsWhy → ℕ → Result T WordsFault
+refusal_at why place = Err (fault_at place why)
 
 -- ---- values
 
@@ -72,13 +72,13 @@ with_value Pages pages seen = record seen { pages = Some pages; awaited = None }
 -- the value of an option
 abbrev pub read_value : Seen → ℕ → OptionName → Result ℕ WordsWhy → Result Seen WordsFault
 read_value seen place option (Ok value) = Ok (with_value option value seen)
-read_value seen place option (Err why) = refused why place
+read_value seen place option (Err why) = refusal_at why place
 
 -- an option
 abbrev pub read_option : Seen → ℕ → Option OptionName → Result Seen WordsFault
-read_option seen place None = refused UnknownOption place
+read_option seen place None = refusal_at UnknownOption place
 read_option seen place (Some option) =
-    if is_some (given option seen) then refused Repeated place else Ok (record seen { awaited = Some option })
+    if is_some (given option seen) then refusal_at Repeated place else Ok (record seen { awaited = Some option })
 
 -- one plain word more
 abbrev pub with_word : Seen → ℕ → Seen
@@ -86,7 +86,7 @@ with_word seen place = record seen { plain_places = seen.plain_places ++ place �
 
 -- a plain word that has to be a number
 abbrev pub read_number : Seen → ℕ → Option ℕ → Result Seen WordsFault
-read_number seen place None = refused BadNumber place
+read_number seen place None = refusal_at BadNumber place
 read_number seen place (Some number) = Ok (record (with_word seen place) { number = Some number })
 
 -- a plain word that isn't too many
@@ -98,7 +98,7 @@ read_further command seen place word =
 abbrev pub read_plain : Command → Seen → ℕ → List ℕ → Result Seen WordsFault
 read_plain command seen place word =
     if nat_lt (length seen.plain_places) (usage_of command).words then read_further command seen place word
-    else refused ExtraWord place
+    else refusal_at ExtraWord place
 
 -- `--`, an option or a plain word
 abbrev pub read_item : Command → Seen → ℕ → List ℕ → Result Seen WordsFault
@@ -128,15 +128,15 @@ default_pages = 16384
 
 -- with the place of a plain word, counted from 0; where the line, of so many words, hasn't it, that is its refusal
 abbrev pub with_plain : ℕ → Seen → ℕ → (ℕ → Result Line WordsFault) → Result Line WordsFault
-with_plain count seen k next = option_map_or next (slice_get seen.plain_places k) (refused MissingWord count)
+with_plain count seen k next = option_map_or next (slice_get seen.plain_places k) (refusal_at MissingWord count)
 
 abbrev pub with_budget : ℕ → Option ℕ → (ℕ → Line) → Result Line WordsFault
-with_budget count None line = refused MissingBudget count
+with_budget count None line = refusal_at MissingBudget count
 with_budget count (Some budget) line = Ok (line budget)
 
 -- the length and the budget of a machine have to be there
 abbrev pub with_machine : ℕ → Option ℕ → Option ℕ → (ℕ → ℕ → Line) → Result Line WordsFault
-with_machine count None budget line = refused MissingLength count
+with_machine count None budget line = refusal_at MissingLength count
 with_machine count (Some bits) budget line = with_budget count budget (line bits)
 
 -- the place of the first argument, or the number of words
@@ -156,7 +156,7 @@ line_said Dbg count seen =
     with_plain count seen 0 (λ file. with_plain count seen 1 (λ script.
     with_machine count seen.vl seen.budget (λ bits budget.
     DbgLine file script (args_said count seen) bits budget (pages_said seen))))
-line_said Load count seen = option_map_or (λ number. Ok (LoadLine number)) seen.number (refused MissingWord count)
+line_said Load count seen = option_map_or (λ number. Ok (LoadLine number)) seen.number (refusal_at MissingWord count)
 line_said Sweep count seen =
     with_plain count seen 0 (λ file. with_budget count seen.budget (λ budget.
     SweepLine file (args_said count seen) budget (pages_said seen)))
@@ -168,14 +168,14 @@ line_said Threads count seen =
 -- an option that is the last word has no value
 abbrev pub end_of : Command → ℕ → Seen → Result Line WordsFault
 end_of command count seen =
-    if is_some seen.awaited then refused MissingValue (count - 1) else line_said command count seen
+    if is_some seen.awaited then refusal_at MissingValue (count - 1) else line_said command count seen
 
 abbrev pub scanned_command : List (List ℕ) → Option Command → Result Line WordsFault
-scanned_command words None = refused UnknownCommand 0
+scanned_command words None = refusal_at UnknownCommand 0
 scanned_command words (Some command) =
     and_then (read_words command nothing_seen 1 (drop 1 words)) (end_of command (length words))
 
 -- the line that words say of which none is refused by itself
 abbrev pub scanned_line : List (List ℕ) → Result Line WordsFault
-scanned_line [] = refused NoCommand 0
+scanned_line [] = refusal_at NoCommand 0
 scanned_line (name ∷ words) = scanned_command (name ∷ words) (named_command name)

@@ -33,7 +33,7 @@ ghost use Rattle.command_lines.specs.Scan.{
   read_value,
   read_word,
   read_words,
-  refused,
+  refusal_at,
   with_machine,
 };
 
@@ -96,7 +96,7 @@ pub fn fault(why: WordsWhy, place: usize) -> WordsFault
 /// A value, or its refusal at a place.
 fn placed<T>(value: Result<T, WordsWhy>, place: usize) -> Result<T, WordsFault>
     requires { place ≤ most_arguments }
-    ensures { MatchResult value (λ v. result ≡ Ok v) (λ why. result ≡ refused why place) }
+    ensures { MatchResult value (λ v. result ≡ Ok v) (λ why. result ≡ refusal_at why place) }
 {
     value.map_err(|why| fault(why, place))
 }

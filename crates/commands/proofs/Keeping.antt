@@ -46,7 +46,7 @@ use Rattle.commands.proofs.RunEnds.{broken_is}
 use Rattle.commands.proofs.TwoFiles.{found_reads}
 use Rattle.commands.proofs.Worlds.{stops_whole}
 use Rattle.commands.specs.Reading.{EndsUnread, IsTooLong}
-use Rattle.commands.specs.Whole.{AtCall, HasPut, InRun, InWorld, Keeps, Undone, seen_by}
+use Rattle.commands.specs.Whole.{AtCall, GainedAt, InRun, InWorld, HasAllPut, Undone, seen_by}
 use Rattle.commands.specs.Ahead.{InForward}
 use Rattle.commands.proofs.Causing.{ended_other, run_fails, run_reads, run_writes, unread_no_read, unread_no_write}
 use Rattle.commands.proofs.NamedFiles.{over, too_long, with_found, with_long, found_so}
@@ -55,13 +55,13 @@ use Rattle.commands.proofs.NamedFiles.{over, too_long, with_found, with_long, fo
 
 -- what the output has
 abbrev Written : (State → Type 0) → Option Outcome → Ending → Option (List ℕ) → Option (List ℕ) → Type 0
-Written at outcome ending old new = HasPut at (λ st. st.output) old new ⊎ ((ending ≡ ErrorsFault) × IfSome old (λ had. new ≡ Some (had ++ output_of outcome)))
+Written at outcome ending old new = GainedAt at (λ st. st.output) old new ⊎ ((ending ≡ ErrorsFault) × IfSome old (λ had. new ≡ Some (had ++ output_of outcome)))
 
-put_as : (at more : State → Type 0) (put : State → List ℕ) (old new : Option (List ℕ)) → ((st : State) → at st → more st) → HasPut at put old new → HasPut more put old new
+put_as : (at more : State → Type 0) (put : State → List ℕ) (old new : Option (List ℕ)) → ((st : State) → at st → more st) → GainedAt at put old new → GainedAt more put old new
 put_as at more put old new to p = (p.0, to p.0 p.1, p.2)
 
 module _ (at more : List ℕ → State → Type 0) (f h : List ℕ → Option Outcome) (ending : Ending) (o0 o1 e0 e1 : Option (List ℕ)) where
-  pub keeps_as : (told : Option (List ℕ)) → ((bytes : List ℕ) (st : State) → at bytes st → more bytes st) → ((bytes : List ℕ) → f bytes ≡ h bytes) → Keeps at f ending told o0 o1 e0 e1 → Keeps more h ending told o0 o1 e0 e1
+  pub keeps_as : (told : Option (List ℕ)) → ((bytes : List ℕ) (st : State) → at bytes st → more bytes st) → ((bytes : List ℕ) → f bytes ≡ h bytes) → HasAllPut at f ending told o0 o1 e0 e1 → HasAllPut more h ending told o0 o1 e0 e1
   keeps_as None to same k = tt
   keeps_as (Some bytes) to same k = (
     (λ fault. elim (k.0 fault) as (λ _. Written (more bytes) (h bytes) ending o0 o1) [
@@ -76,14 +76,14 @@ module _ (at more : List ℕ → State → Type 0) (f h : List ℕ → Option Ou
 -- what was put is all of the output
 module _ (at : List ℕ → State → Type 0) (f : List ℕ → Option Outcome) (o0 o1 e0 e1 : Option (List ℕ)) where
   whole_keeps : (result : Ending) (told : Option (List ℕ)) → (result ≡ ReadFault → ⊥) → (result ≡ WriteFault → ⊥)
-      → ((bytes : List ℕ) → told ≡ Some bytes → result ≡ ErrorsFault → IfSome o0 (λ had. o1 ≡ Some (had ++ output_of (f bytes)))) → Keeps at f result told o0 o1 e0 e1
+      → ((bytes : List ℕ) → told ≡ Some bytes → result ≡ ErrorsFault → IfSome o0 (λ had. o1 ≡ Some (had ++ output_of (f bytes)))) → HasAllPut at f result told o0 o1 e0 e1
   whole_keeps result None read write whole = tt
   whole_keeps result (Some bytes) read write whole = (
     (λ fault. elim fault as (λ _. Written (at bytes) (f bytes) result o0 o1) [
       | inl e ↦ absurd (read e)
       | inr e ↦ inr (e, whole bytes refl e)
     ]),
-    (λ fault. elim fault as (λ _. HasPut (at bytes) (λ st. st.errors) e0 e1) [
+    (λ fault. elim fault as (λ _. GainedAt (at bytes) (λ st. st.errors) e0 e1) [
       | inl e ↦ absurd (read e)
       | inr e ↦ absurd (write e)
     ]),
@@ -93,11 +93,11 @@ module _ (at : List ℕ → State → Type 0) (f : List ℕ → Option Outcome) 
   told_whole told whole bytes is = subst (λ (t : Option (List ℕ)). IfSome t (λ b. IfSome o0 (λ had. o1 ≡ Some (had ++ output_of (f b))))) is whole
 
   pub keeps_ended : {T E : Type 0} (put : Result T E) (ending result : Ending) (told : Option (List ℕ)) → result ≡ ended_by put ending → (ending ≡ ReadFault → ⊥) → (ending ≡ WriteFault → ⊥)
-      → IfSome told (λ bytes. IfSome o0 (λ had. o1 ≡ Some (had ++ output_of (f bytes)))) → Keeps at f result told o0 o1 e0 e1
+      → IfSome told (λ bytes. IfSome o0 (λ had. o1 ≡ Some (had ++ output_of (f bytes)))) → HasAllPut at f result told o0 o1 e0 e1
   keeps_ended put ending result told by read write whole =
       whole_keeps result told (ended_other put ending result ReadFault by (λ e. cc) read) (ended_other put ending result WriteFault by (λ e. cc) write) (λ bytes is _. told_whole told whole bytes is)
 
-  pub keeps_none : (result : Ending) (told : Option (List ℕ)) → (result ≡ ReadFault → ⊥) → (result ≡ WriteFault → ⊥) → (result ≡ ErrorsFault → ⊥) → Keeps at f result told o0 o1 e0 e1
+  pub keeps_none : (result : Ending) (told : Option (List ℕ)) → (result ≡ ReadFault → ⊥) → (result ≡ WriteFault → ⊥) → (result ≡ ErrorsFault → ⊥) → HasAllPut at f result told o0 o1 e0 e1
   keeps_none result told read write errs = whole_keeps result told read write (λ bytes _ e. absurd (errs e))
 
 -- nothing was put, and nothing was to be
@@ -212,13 +212,13 @@ module _ (m n : Parts) (budget : ℕ) (end : RunEnd) (pc : ℕ) (ending : Ending
   run_put bytes = run (with_input m bytes) n.steps
 
   run_in : (bytes : List ℕ) (put : State → List ℕ) (old new : Option (List ℕ)) → is_broken_off end ≡ true → AtCall ending left (run_put bytes)
-      → IfSome old (λ had. new ≡ Some (had ++ put (run_put bytes))) → HasPut (InRun m budget ending left bytes) put old new
+      → IfSome old (λ had. new ≡ Some (had ++ put (run_put bytes))) → GainedAt (InRun m budget ending left bytes) put old new
   run_in bytes put old new broken at gained = (run_put bytes, (n.steps, below broken, refl, at), gained)
 
   pub run_keeps : (f : List ℕ → Option Outcome) (told : Option (List ℕ))
       → IfSome told (λ bytes. is_broken_off end ≡ true → IsKept (run (with_input m bytes) n.steps).parts n (Some (run (with_input m bytes) n.steps).input) left)
       → ((end ≡ runs.ReadFault) ⊎ (end ≡ runs.ErrorsFault) → Puts (λ st. (run st n.steps).output) m told o0 o1 false)
-      → ((end ≡ runs.ReadFault) ⊎ (end ≡ runs.WriteFault) → Puts (λ st. (run st n.steps).errors) m told e0 e1 false) → Keeps (InRun m budget ending left) f ending told o0 o1 e0 e1
+      → ((end ≡ runs.ReadFault) ⊎ (end ≡ runs.WriteFault) → Puts (λ st. (run st n.steps).errors) m told e0 e1 false) → HasAllPut (InRun m budget ending left) f ending told o0 o1 e0 e1
   run_keeps f None kept out_put more = tt
   run_keeps f (Some bytes) kept out_put more =
       let out : State → List ℕ = λ st. st.output in
@@ -233,7 +233,7 @@ module _ (m n : Parts) (budget : ℕ) (end : RunEnd) (pc : ℕ) (ending : Ending
               let broken : is_broken_off end ≡ true = ap is_broken_off r in
               inl (run_in bytes out o0 o1 broken (as_ending ending ErrorsFault left (run_put bytes) e (at_errors (run_put bytes) n left (kept broken) (goes broken) (errs r).names)) (out_put (inr r)))
         ]),
-        (λ fault. elim fault as (λ _. HasPut (InRun m budget ending left bytes) err e0 e1) [
+        (λ fault. elim fault as (λ _. GainedAt (InRun m budget ending left bytes) err e0 e1) [
           | inl e ↦
               let r : end ≡ runs.ReadFault = run_reads end pc (sym by ∙ e) in
               let broken : is_broken_off end ≡ true = ap is_broken_off r in
@@ -283,10 +283,10 @@ module _ (m : Parts) (n : MachineState) (commands : List Command) (budget : ℕ)
   session_within bytes put old new s failed = subst (λ (x : ℕ). x < budget) (ap (λ (p : Parts). p.steps) (s.kept failed).is) (below failed)
 
   session_in : (bytes : List ℕ) (put : State → List ℕ) (old new : Option (List ℕ)) (s : StandsWith put commands budget (with_input m bytes) n left old new)
-      → SessionAt bytes s.first s.steps ⊎ ((s.steps ≡ 0) × (ending ≡ WriteFault)) → HasPut (InForward commands m budget ending left bytes) put old new
+      → SessionAt bytes s.first s.steps ⊎ ((s.steps ≡ 0) × (ending ≡ WriteFault)) → GainedAt (InForward commands m budget ending left bytes) put old new
   session_in bytes put old new s at = (session_put bytes s.first s.steps, (s.first, s.steps, refl, at), s.gained)
 
-  session_read : (bytes : List ℕ) (put : State → List ℕ) (old new : Option (List ℕ)) → ending ≡ ReadFault → StandsWith put commands budget (with_input m bytes) n left old new → HasPut (InForward commands m budget ending left bytes) put old new
+  session_read : (bytes : List ℕ) (put : State → List ℕ) (old new : Option (List ℕ)) → ending ≡ ReadFault → StandsWith put commands budget (with_input m bytes) n left old new → GainedAt (InForward commands m budget ending left bytes) put old new
   session_read bytes put old new e s =
       let r : end ≡ sessions.ReadFault = session_reads end (sym by ∙ e) in
       let failed : n.failed ≡ true = failed_so n.failed end sessions.ReadFault r refl (λ e. cc) line in
@@ -294,7 +294,7 @@ module _ (m : Parts) (n : MachineState) (commands : List Command) (budget : ℕ)
 
   pub session_keeps : (f : List ℕ → Option Outcome) (told : Option (List ℕ))
       → ((end ≡ sessions.ReadFault) ⊎ (end ≡ sessions.ErrorsFault) → IfSome told (λ bytes. StandsWith (λ st. st.output) commands budget (with_input m bytes) n left o0 o1))
-      → ((end ≡ sessions.ReadFault) ⊎ (end ≡ sessions.WriteFault) → IfSome told (λ bytes. StandsWith (λ st. st.errors) commands budget (with_input m bytes) n left e0 e1)) → Keeps (InForward commands m budget ending left) f ending told o0 o1 e0 e1
+      → ((end ≡ sessions.ReadFault) ⊎ (end ≡ sessions.WriteFault) → IfSome told (λ bytes. StandsWith (λ st. st.errors) commands budget (with_input m bytes) n left e0 e1)) → HasAllPut (InForward commands m budget ending left) f ending told o0 o1 e0 e1
   session_keeps f None stands more = tt
   session_keeps f (Some bytes) stands more =
       let out : State → List ℕ = λ st. st.output in
@@ -307,7 +307,7 @@ module _ (m : Parts) (n : MachineState) (commands : List Command) (budget : ℕ)
               let s : StandsWith out commands budget (with_input m bytes) n left o0 o1 = stands (inr r) in
               inl (session_in bytes out o0 o1 s (inl (session_within bytes out o0 o1 s failed, as_ending ending ErrorsFault left (session_put bytes s.first s.steps) e (at_errors (session_put bytes s.first s.steps) n.parts left (s.kept failed) (goes failed) (errs r).names))))
         ]),
-        (λ fault. elim fault as (λ _. HasPut (InForward commands m budget ending left bytes) err e0 e1) [
+        (λ fault. elim fault as (λ _. GainedAt (InForward commands m budget ending left bytes) err e0 e1) [
           | inl e ↦ session_read bytes err e0 e1 e (more (inl (session_reads end (sym by ∙ e))))
           | inr e ↦
               let r : end ≡ sessions.WriteFault = session_writes end (sym by ∙ e) in
@@ -358,7 +358,7 @@ module _ (turns : List (ℕ × ℕ)) (budget : ℕ) (w n : World) (end : WorldEn
   world_seen bytes = seen_by n.last (world_put bytes)
 
   world_in : (bytes : List ℕ) (put : State → List ℕ) (old new : Option (List ℕ)) → world_broken_off end ≡ true → AtCall ending left (world_seen bytes)
-      → IfSome old (λ had. new ≡ Some (had ++ put (world_seen bytes))) → HasPut (InWorld turns w budget ending left bytes) put old new
+      → IfSome old (λ had. new ≡ Some (had ++ put (world_seen bytes))) → GainedAt (InWorld turns w budget ending left bytes) put old new
   world_in bytes put old new broken at gained = (world_seen bytes, (n.steps, below broken, n.last, refl, at), gained)
 
   -- the machine of the context
@@ -367,7 +367,7 @@ module _ (turns : List (ℕ × ℕ)) (budget : ℕ) (w n : World) (end : WorldEn
 
   pub world_keeps : (f : List ℕ → Option Outcome) (told : Option (List ℕ)) → IfSome told (λ bytes. world_broken_off end ≡ true → IsKeptAt (threads turns n.steps (world_with_input w bytes)) n left)
       → ((end ≡ worlds.ReadFault) ⊎ (end ≡ worlds.ErrorsFault) → WorldPuts (λ st. (threads turns n.steps st).output) w told o0 o1 false)
-      → ((end ≡ worlds.ReadFault) ⊎ (end ≡ worlds.WriteFault) → WorldPuts (λ st. (threads turns n.steps st).errors) w told e0 e1 false) → Keeps (InWorld turns w budget ending left) f ending told o0 o1 e0 e1
+      → ((end ≡ worlds.ReadFault) ⊎ (end ≡ worlds.WriteFault) → WorldPuts (λ st. (threads turns n.steps st).errors) w told e0 e1 false) → HasAllPut (InWorld turns w budget ending left) f ending told o0 o1 e0 e1
   world_keeps f None kept out_put more = tt
   world_keeps f (Some bytes) kept out_put more =
       let out : State → List ℕ = λ st. st.output in
@@ -382,7 +382,7 @@ module _ (turns : List (ℕ × ℕ)) (budget : ℕ) (w n : World) (end : WorldEn
               let broken : world_broken_off end ≡ true = ap world_broken_off r in
               inl (world_in bytes out o0 o1 broken (as_ending ending ErrorsFault left (world_seen bytes) e (at_errors (world_seen bytes) (last_machine n) left (world_kept bytes (kept broken)) (goes broken) (errs r).names)) (out_put (inr r)))
         ]),
-        (λ fault. elim fault as (λ _. HasPut (InWorld turns w budget ending left bytes) err e0 e1) [
+        (λ fault. elim fault as (λ _. GainedAt (InWorld turns w budget ending left bytes) err e0 e1) [
           | inl e ↦
               let r : end ≡ worlds.ReadFault = world_reads end ending by e in
               let broken : world_broken_off end ≡ true = ap world_broken_off r in
@@ -407,8 +407,8 @@ behind_file at words place files input st = MatchOption (file_at words files pla
 -- the file was read
 pub found_keeps : (at : Files → List ℕ → List ℕ → State → Type 0) (next : Files → List ℕ → List ℕ → Option Outcome) (told : Option Files) (words : List (List ℕ)) (place : ℕ) (name bytes items : List ℕ) (i o o1 e e1 : Option (List ℕ)) (result : Ending) (P : Files → Type 0)
     → name ≡ get_or words place [] → bytes ≡ items → IfSome told (λ files. whole_file (get files name) file_limit ≡ Ok items)
-    → IfSome told (λ files. P files → Keeps (at files bytes) (next files bytes) result i o o1 e e1)
-    → IfSome told (λ files. P files → Keeps (behind_file at words place files) (over next words place files) result i o o1 e e1)
+    → IfSome told (λ files. P files → HasAllPut (at files bytes) (next files bytes) result i o o1 e e1)
+    → IfSome told (λ files. P files → HasAllPut (behind_file at words place files) (over next words place files) result i o o1 e e1)
 found_keeps at next None words place name bytes items i o o1 e e1 result P named are found keeps = tt
 found_keeps at next (Some files) words place name bytes items i o o1 e e1 result P named are found keeps = λ p.
     let whole : whole_file (get files (get_or words place [])) file_limit ≡ Ok bytes = ap (λ (n : List ℕ). whole_file (get files n) file_limit) (sym named) ∙ found ∙ ap (λ (xs : List ℕ). Ok xs) (sym are) in
@@ -419,7 +419,7 @@ found_keeps at next (Some files) words place name bytes items i o o1 e e1 result
 
 -- it wasn't
 pub unread_keeps : (at : Files → List ℕ → State → Type 0) (next : Files → List ℕ → List ℕ → Option Outcome) (told : Option Files) (words : List (List ℕ)) (place : ℕ) (name : List ℕ) (ending : Ending) (i o e e1 : Option (List ℕ)) (P : Files → Type 0)
-    → name ≡ get_or words place [] → EndsUnread told name ending → IfSome told (λ files. P files → Keeps (at files) (over next words place files) ending i o o e e1)
+    → name ≡ get_or words place [] → EndsUnread told name ending → IfSome told (λ files. P files → HasAllPut (at files) (over next words place files) ending i o o e e1)
 unread_keeps at next None words place name ending i o e e1 P named unread = tt
 unread_keeps at next (Some files) words place name ending i o e e1 P named unread = λ p.
     whole_keeps (at files) (over next words place files) o o e e1 ending i (unread_no_read (Some files) name ending unread) (unread_no_write (Some files) name ending unread)
@@ -432,8 +432,8 @@ unread_keeps at next (Some files) words place name ending i o e e1 P named unrea
 module _ (at : Files → List ℕ → List ℕ → State → Type 0) (next : Files → List ℕ → List ℕ → Option Outcome) where
   pub found_told : (told : Option Files) (words : List (List ℕ)) (place : ℕ) (name bytes items : List ℕ) (i o o1 e e1 : Option (List ℕ)) (result : Ending)
       → name ≡ get_or words place [] → bytes ≡ items → IfSome told (λ files. whole_file (get files name) file_limit ≡ Ok items)
-      → IfSome told (λ files. Keeps (at files bytes) (next files bytes) result i o o1 e e1)
-      → IfSome told (λ files. Keeps (behind_file at words place files) (over next words place files) result i o o1 e e1)
+      → IfSome told (λ files. HasAllPut (at files bytes) (next files bytes) result i o o1 e e1)
+      → IfSome told (λ files. HasAllPut (behind_file at words place files) (over next words place files) result i o o1 e e1)
   found_told None words place name bytes items i o o1 e e1 result named are found keeps = tt
   found_told (Some files) words place name bytes items i o o1 e e1 result named are found keeps =
       found_keeps at next (Some files) words place name bytes items i o o1 e e1 result (λ _. Unit {0}) named are found (λ _. keeps) tt
@@ -441,8 +441,8 @@ module _ (at : Files → List ℕ → List ℕ → State → Type 0) (next : Fil
   -- a second file that isn't one whose input is read first
   pub found_behind : (second : SecondFile) (told : Option Files) (words : List (List ℕ)) (place : ℕ) (name bytes items : List ℕ) (i o o1 e e1 : Option (List ℕ)) (result : Ending)
       → name ≡ get_or words place [] → bytes ≡ items → IfSome told (λ files. whole_file (get files name) file_limit ≡ Ok items)
-      → ((files : Files) → text_reads_first second bytes ≡ false → Keeps (at files bytes) (next files bytes) result i o o1 e e1)
-      → IfSome told (λ files. file_reads_first second (file_at words files place) ≡ false → Keeps (behind_file at words place files) (over next words place files) result i o o1 e e1)
+      → ((files : Files) → text_reads_first second bytes ≡ false → HasAllPut (at files bytes) (next files bytes) result i o o1 e e1)
+      → IfSome told (λ files. file_reads_first second (file_at words files place) ≡ false → HasAllPut (behind_file at words place files) (over next words place files) result i o o1 e e1)
   found_behind second None words place name bytes items i o o1 e e1 result named are found keeps = tt
   found_behind second (Some files) words place name bytes items i o o1 e e1 result named are found keeps = λ later.
       let whole : whole_file (file_at words files place) file_limit ≡ Ok bytes = ap (λ (n : List ℕ). whole_file (get files n) file_limit) (sym named) ∙ found ∙ ap (λ (xs : List ℕ). Ok xs) (sym are) in
@@ -450,7 +450,7 @@ module _ (at : Files → List ℕ → List ℕ → State → Type 0) (next : Fil
       (λ _. keeps files (found_reads second (file_at words files place) bytes whole ∙ later)) tt
 
 pub unread_told : (at : Files → List ℕ → State → Type 0) (next : Files → List ℕ → List ℕ → Option Outcome) (told : Option Files) (words : List (List ℕ)) (place : ℕ) (name : List ℕ) (ending : Ending) (i o e e1 : Option (List ℕ))
-    → name ≡ get_or words place [] → EndsUnread told name ending → IfSome told (λ files. Keeps (at files) (over next words place files) ending i o o e e1)
+    → name ≡ get_or words place [] → EndsUnread told name ending → IfSome told (λ files. HasAllPut (at files) (over next words place files) ending i o o e e1)
 unread_told at next None words place name ending i o e e1 named unread = tt
 unread_told at next (Some files) words place name ending i o e e1 named unread = unread_keeps at next (Some files) words place name ending i o e e1 (λ _. Unit {0}) named unread tt
 

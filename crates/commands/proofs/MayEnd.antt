@@ -77,15 +77,17 @@ stops_run Spent is = refl
 stops_run (ImageRefused fault) is = refl
 stops_run ending is = is
 
-pub stops_asm : (ending : Ending) → stops_any ending ≡ true → ends_asm ending ≡ true
-stops_asm Done is = refl
-stops_asm (ListingRefused fault) is = refl
-stops_asm ending is = is
+pub stops_asm : (ending : Ending) → (ending ≡ ReadFault → ⊥) → stops_any ending ≡ true → ends_asm ending ≡ true
+stops_asm Done unread is = refl
+stops_asm (ListingRefused fault) unread is = refl
+stops_asm ReadFault unread is = absurd (unread refl)
+stops_asm ending unread is = is
 
-pub stops_dis : (ending : Ending) → stops_any ending ≡ true → ends_dis ending ≡ true
-stops_dis Done is = refl
-stops_dis (ImageRefused fault) is = refl
-stops_dis ending is = is
+pub stops_dis : (ending : Ending) → (ending ≡ ReadFault → ⊥) → stops_any ending ≡ true → ends_dis ending ≡ true
+stops_dis Done unread is = refl
+stops_dis (ImageRefused fault) unread is = refl
+stops_dis ReadFault unread is = absurd (unread refl)
+stops_dis ending unread is = is
 
 pub stops_dbg : (ending : Ending) → stops_any ending ≡ true → ends_dbg ending ≡ true
 stops_dbg Done is = refl

@@ -9,8 +9,8 @@ use Rattle.emu_run.specs.Run.{until_end}
 use Rattle.emu_system.specs.Start.{with_input}
 use Rattle.commands.specs.Whole.{AtCall}
 
--- behind the first commands, and so many steps, which the budget bounds as a whole; or just behind these commands, where
--- a line of the session couldn't be put
+-- behind the first commands and so many steps, of which with those before fewer than the budget were counted; or just
+-- behind these commands, where a line of the session couldn't be put
 abbrev pub InForward : List Command → Parts → ℕ → Ending → Option (List ℕ) → List ℕ → State → Type 0
 InForward commands m budget ending left input st =
     (first : ℕ) × (n : ℕ) × (st ≡ until_end (session (take first commands) budget (with_input m input)) n)

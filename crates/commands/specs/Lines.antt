@@ -15,7 +15,7 @@ use Rattle.dbg_model.specs.declared.script.ScriptFault.{ScriptFault}
 use Rattle.command_model.specs.Sweep.{stream_limit}
 use Rattle.command_lines.specs.Outcome.{Outcome, Files, file_at, file_limit}
 use Rattle.command_lines.specs.declared.ending.Ending.{Ending}
-use Rattle.command_lines.specs.declared.ending.Ending.TheVariants.{Exit, Trap, Spent, Stuck, Done, WordsRefused, ImageRefused, ListingRefused, ScriptRefused, ScheduleRefused, TooLong, FileFault, WriteFault, ErrorsFault, OutOfMemory}
+use Rattle.command_lines.specs.declared.ending.Ending.TheVariants.{Exit, Trap, Spent, Stuck, Done, WordsRefused, ImageRefused, ListingRefused, ScriptRefused, ScheduleRefused, TooLong, FileFault, ReadFault, WriteFault, ErrorsFault, OutOfMemory}
 use Rattle.commands.specs.Promises.{is_failure, settles_by, CountsFor}
 
 -- the line runs a machine over the input
@@ -57,36 +57,37 @@ abbrev pub file_goes_back : Option (List ℕ) → Bool
 file_goes_back file = option_map_or text_goes_back file false
 
 -- the input is read to its end before anything is run: by a sweep, and by a session that goes back
-abbrev pub reads_first : List (List ℕ) → Files → Result Line WordsFault → Bool
-reads_first words files (Ok (Run file args bits budget pages)) = false
-reads_first words files (Ok (Asm listing)) = false
-reads_first words files (Ok (Dis file)) = false
-reads_first words files (Ok (Dbg file script args bits budget pages)) = file_goes_back (file_at words files script)
-reads_first words files (Ok (Load number)) = false
-reads_first words files (Ok (Sweep file args budget pages)) = true
-reads_first words files (Ok (Threads file schedule args bits budget pages)) = false
-reads_first words files (Err fault) = false
+abbrev pub reads_input_first : List (List ℕ) → Files → Result Line WordsFault → Bool
+reads_input_first words files (Ok (Run file args bits budget pages)) = false
+reads_input_first words files (Ok (Asm listing)) = false
+reads_input_first words files (Ok (Dis file)) = false
+reads_input_first words files (Ok (Dbg file script args bits budget pages)) =
+    file_goes_back (file_at words files script)
+reads_input_first words files (Ok (Load number)) = false
+reads_input_first words files (Ok (Sweep file args budget pages)) = true
+reads_input_first words files (Ok (Threads file schedule args bits budget pages)) = false
+reads_input_first words files (Err fault) = false
 
 -- what the ending of the line and its outcome share whatever the input has
 abbrev pub SettlesLine : List (List ℕ) → Files → Result Line WordsFault → Option Outcome → Ending → Type 0
-SettlesLine words files line = settles_by (reads_first words files line)
+SettlesLine words files line = settles_by (reads_input_first words files line)
 
 -- the files are told, and the script of this name, if there is one, goes only forward
 abbrev pub IsForward : Option Files → List ℕ → Type 0
 IsForward None name = ⊥
 IsForward (Some files) name = file_goes_back (get files name) ≡ false
 
--- nothing is taken where memory is wanting: not of a sweep, and of a session only where the files are told and its
--- script goes only forward
-abbrev pub TakesLast : List (List ℕ) → Result Line WordsFault → Option Files → Type 0
-TakesLast words (Ok (Run file args bits budget pages)) told = Unit {0}
-TakesLast words (Ok (Asm listing)) told = Unit {0}
-TakesLast words (Ok (Dis file)) told = Unit {0}
-TakesLast words (Ok (Dbg file script args bits budget pages)) told = IsForward told (get_or words script [])
-TakesLast words (Ok (Load number)) told = Unit {0}
-TakesLast words (Ok (Sweep file args budget pages)) told = ⊥
-TakesLast words (Ok (Threads file schedule args bits budget pages)) told = Unit {0}
-TakesLast words (Err fault) told = Unit {0}
+-- which lines are promised to take nothing where memory is wanting: all but a sweep, and of the sessions those whose
+-- files are told and whose script goes only forward
+abbrev pub TakesNothingEarly : List (List ℕ) → Result Line WordsFault → Option Files → Type 0
+TakesNothingEarly words (Ok (Run file args bits budget pages)) told = Unit {0}
+TakesNothingEarly words (Ok (Asm listing)) told = Unit {0}
+TakesNothingEarly words (Ok (Dis file)) told = Unit {0}
+TakesNothingEarly words (Ok (Dbg file script args bits budget pages)) told = IsForward told (get_or words script [])
+TakesNothingEarly words (Ok (Load number)) told = Unit {0}
+TakesNothingEarly words (Ok (Sweep file args budget pages)) told = ⊥
+TakesNothingEarly words (Ok (Threads file schedule args bits budget pages)) told = Unit {0}
+TakesNothingEarly words (Err fault) told = Unit {0}
 
 -- the files are told, and the script of this name goes back
 abbrev pub IsBackward : Option Files → List ℕ → Type 0
@@ -95,15 +96,15 @@ IsBackward (Some files) name = file_goes_back (get files name) ≡ true
 
 -- the input is read to its end before anything is written: by a sweep, and by a session where the files are told and
 -- its script goes back
-abbrev pub TakesFirst : List (List ℕ) → Result Line WordsFault → Option Files → Type 0
-TakesFirst words (Ok (Run file args bits budget pages)) told = ⊥
-TakesFirst words (Ok (Asm listing)) told = ⊥
-TakesFirst words (Ok (Dis file)) told = ⊥
-TakesFirst words (Ok (Dbg file script args bits budget pages)) told = IsBackward told (get_or words script [])
-TakesFirst words (Ok (Load number)) told = ⊥
-TakesFirst words (Ok (Sweep file args budget pages)) told = Unit {0}
-TakesFirst words (Ok (Threads file schedule args bits budget pages)) told = ⊥
-TakesFirst words (Err fault) told = ⊥
+abbrev pub ReadsInputFirst : List (List ℕ) → Result Line WordsFault → Option Files → Type 0
+ReadsInputFirst words (Ok (Run file args bits budget pages)) told = ⊥
+ReadsInputFirst words (Ok (Asm listing)) told = ⊥
+ReadsInputFirst words (Ok (Dis file)) told = ⊥
+ReadsInputFirst words (Ok (Dbg file script args bits budget pages)) told = IsBackward told (get_or words script [])
+ReadsInputFirst words (Ok (Load number)) told = ⊥
+ReadsInputFirst words (Ok (Sweep file args budget pages)) told = Unit {0}
+ReadsInputFirst words (Ok (Threads file schedule args bits budget pages)) told = ⊥
+ReadsInputFirst words (Err fault) told = ⊥
 
 -- the outcome of a line for these bytes counts: the line takes no input, or the input told them, or the outcome rests
 -- on none
@@ -123,6 +124,11 @@ abbrev pub stops_any : Ending → Bool
 stops_any (TooLong limit) = nat_eq limit file_limit
 stops_any ending = is_failure ending
 
+-- the same of a line that takes no input
+abbrev pub stops_unread : Ending → Bool
+stops_unread ReadFault = false
+stops_unread ending = stops_any ending
+
 abbrev pub ends_run : Ending → Bool
 ends_run (Exit code) = true
 ends_run (Trap trap pc) = true
@@ -133,12 +139,12 @@ ends_run ending = stops_any ending
 abbrev pub ends_asm : Ending → Bool
 ends_asm Done = true
 ends_asm (ListingRefused fault) = true
-ends_asm ending = stops_any ending
+ends_asm ending = stops_unread ending
 
 abbrev pub ends_dis : Ending → Bool
 ends_dis Done = true
 ends_dis (ImageRefused fault) = true
-ends_dis ending = stops_any ending
+ends_dis ending = stops_unread ending
 
 -- the input of a session that goes back may be too long
 abbrev pub ends_dbg : Ending → Bool

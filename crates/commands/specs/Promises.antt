@@ -16,7 +16,7 @@ is_failure ErrorsFault = true
 is_failure OutOfMemory = true
 is_failure ending = false
 
--- nothing is put on the errors at the end; where they fail that may be in the text at the end
+-- the command ends without a text on the errors; ErrorsFault isn't one of these, as it may be that text that failed
 abbrev pub is_silent : Ending → Bool
 is_silent Done = true
 is_silent FileFault = true

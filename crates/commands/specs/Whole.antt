@@ -40,8 +40,8 @@ abbrev pub InRun : Parts → ℕ → Ending → Option (List ℕ) → List ℕ �
 InRun parts budget ending left input st =
     (n : ℕ) × (within : n < budget) × (st ≡ run (with_input parts input) n) × AtCall ending left st
 
--- behind the first commands of a session, and so many steps, which the budget bounds as a whole; or just behind these
--- commands, where a line of the session couldn't be put
+-- behind the first commands of a session and so many steps, of which with those before fewer than the budget were
+-- counted; or just behind these commands, where a line of the session couldn't be put
 abbrev pub InSession : List Command → Parts → ℕ → Ending → Option (List ℕ) → List ℕ → State → Type 0
 InSession commands parts budget ending left input st =
     (first : ℕ) × (n : ℕ) × (st ≡ until_end (session (take first commands) budget (with_input parts input)) n)
@@ -79,16 +79,16 @@ InLine words files line ending left input st = ⊥
 -- ---- what the sinks have
 
 -- a sink gained just what had been put to it in the state where the command was broken off
-abbrev pub HasPut : (State → Type 0) → (State → List ℕ) → Option (List ℕ) → Option (List ℕ) → Type 0
-HasPut at put old new = (st : State) × (is : at st) × IfSome old (λ had. new ≡ Some (had ++ put st))
+abbrev pub GainedAt : (State → Type 0) → (State → List ℕ) → Option (List ℕ) → Option (List ℕ) → Type 0
+GainedAt at put old new = (st : State) × (is : at st) × IfSome old (λ had. new ≡ Some (had ++ put st))
 
--- Where the input told its bytes: so it is of the output where the input or the errors failed, and of the errors where
--- the input or the output did. The errors may fail at the text behind the end, too: then the output has all of the
--- result.
-abbrev pub Keeps : (List ℕ → State → Type 0) → (List ℕ → Option Outcome) → Ending → Option (List ℕ) →
+-- Where the input told its bytes: `GainedAt` holds of the output where the input or the errors failed, and of the
+-- errors where the input or the output did. The errors may fail at the text behind the end, too: then the output has
+-- all of the result.
+abbrev pub HasAllPut : (List ℕ → State → Type 0) → (List ℕ → Option Outcome) → Ending → Option (List ℕ) →
     Option (List ℕ) → Option (List ℕ) → Option (List ℕ) → Option (List ℕ) → Type 0
-Keeps at outcome ending told out out_new err err_new = IfSome told (λ bytes.
+HasAllPut at outcome ending told out out_new err err_new = IfSome told (λ bytes.
     ((ending ≡ ReadFault) ⊎ (ending ≡ ErrorsFault)
-    → HasPut (at bytes) (λ st. st.output) out out_new
+    → GainedAt (at bytes) (λ st. st.output) out out_new
     ⊎ ((ending ≡ ErrorsFault) × IfSome out (λ had. out_new ≡ Some (had ++ output_of (outcome bytes)))))
-    × ((ending ≡ ReadFault) ⊎ (ending ≡ WriteFault) → HasPut (at bytes) (λ st. st.errors) err err_new))
+    × ((ending ≡ ReadFault) ⊎ (ending ≡ WriteFault) → GainedAt (at bytes) (λ st. st.errors) err err_new))

@@ -26,7 +26,7 @@ ghost use Rattle.commands.specs.Promises.{settles_by};
 ghost use Rattle.commands.specs.Meets.{now, Meets, MeetsBy, MeetsSweep};
 ghost use Rattle.commands.specs.Sweeping.{ends_swept, Writes};
 ghost use Rattle.commands.specs.Ahead.{InForward};
-ghost use Rattle.commands.specs.Whole.{InSession, Keeps};
+ghost use Rattle.commands.specs.Whole.{InSession, HasAllPut};
 ghost use Rattle.commands.specs.Passing.{InText};
 
 use crate::files::ending_after_line;
@@ -102,7 +102,7 @@ fn debug_machine<I: Source, O: Sink, E: Sink>(
     ensures no_file { result ≢ Ending.FileFault }
     ensures no_memory { result ≢ Ending.OutOfMemory }
     ensures kind { ends_dbg result ≡ true }
-    ensures whole { Keeps (InForward script.now machine.old.parts budget result (I.left input.new))
+    ensures whole { HasAllPut (InForward script.now machine.old.parts budget result (I.left input.new))
         (λ i. Some (outcome_of_session i (model.session script.now budget (with_input machine.old.parts i)))) result
         (I.left input.old) (O.held output.old) (O.held output.new) (E.held errors.old) (E.held errors.new) }
 {
@@ -137,7 +137,7 @@ fn debug_forward<I: Source, O: Sink, E: Sink>(
     ensures memory_first { result ≡ Ending.OutOfMemory
         → (input.new ≡ input.old) × (output.new ≡ output.old) × (errors.new ≡ errors.old) }
     ensures kind { ends_dbg result ≡ true }
-    ensures whole { Keeps (InForward script.now
+    ensures whole { HasAllPut (InForward script.now
         (opening_of bytes.now (seen_image image.now) (map string_bytes words.now) program.now) program.now.budget
         result (I.left input.new))
         (λ i. Some (outcome_of_session i (model.session script.now program.now.budget (with_input
@@ -268,7 +268,7 @@ fn debug_script<I: Source, O: Sink, E: Sink>(
     ensures read_unwritten { has_back script.now ≡ true → result ≡ Ending.ReadFault
         → (output.new ≡ output.old) × (errors.new ≡ errors.old) }
     ensures kind { ends_dbg result ≡ true }
-    ensures whole { has_back script.now ≡ false → Keeps (InSession script.now
+    ensures whole { has_back script.now ≡ false → HasAllPut (InSession script.now
         (opening_of bytes.now (seen_image image.now) (map string_bytes words.now) program.now) program.now.budget
         result (I.left input.new))
         (λ i. Some (outcome_of_commands i program.now.budget
@@ -322,7 +322,7 @@ pub fn debug_image<I: Source, O: Sink, E: Sink>(
     ensures read_unwritten { text_goes_back text.now ≡ true → result ≡ Ending.ReadFault
         → (output.new ≡ output.old) × (errors.new ≡ errors.old) }
     ensures kind { ends_dbg result ≡ true }
-    ensures whole { text_goes_back text.now ≡ false → Keeps
+    ensures whole { text_goes_back text.now ≡ false → HasAllPut
         (InText text.now
         (opening_of bytes.now (seen_image image.now) (map string_bytes words.now) program.now) program.now.budget
         result (I.left input.new))

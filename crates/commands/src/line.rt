@@ -26,17 +26,17 @@ ghost use Rattle.commands.specs.Lines.{
   takes_input,
   names_file,
   may_end,
-  reads_first,
+  reads_input_first,
   sweeps,
   RefusesLine,
   MissesFirst,
   EndsMissing,
-  TakesFirst,
-  TakesLast,
+  ReadsInputFirst,
+  TakesNothingEarly,
 };
 ghost use Rattle.commands.specs.Meets.{MeetsLine, now};
 ghost use Rattle.commands.specs.Programs.{outcome_over};
-ghost use Rattle.commands.specs.Whole.{InLine, Keeps};
+ghost use Rattle.commands.specs.Whole.{InLine, HasAllPut};
 ghost use Rattle.emu_system.specs.Gained.{Gains};
 ghost use Rattle.commands.specs.Promises.{is_failure, is_silent, NamesNoFile};
 
@@ -84,19 +84,19 @@ fn run_line<F: Images, I: Source, O: Sink, E: Sink>(
     ensures file_first { result ≡ Ending.FileFault
         → (input.new ≡ input.old) × (output.new ≡ output.old) × (errors.new ≡ errors.old) }
     ensures files_later { F.faults files.old ≤ F.faults files.new }
-    ensures memory_first { TakesLast (map string_bytes words.now) (Ok line.now) (F.named files.old)
+    ensures memory_first { TakesNothingEarly (map string_bytes words.now) (Ok line.now) (F.named files.old)
         → result ≡ Ending.OutOfMemory → input.new ≡ input.old }
     ensures memory_unwritten { sweeps (Ok line.now) ≡ false → result ≡ Ending.OutOfMemory
         → (output.new ≡ output.old) × (errors.new ≡ errors.old) }
     ensures read_cause { Causes (result ≡ Ending.ReadFault) (I.faults input.old) (I.faults input.new) }
     ensures write_cause { Causes (result ≡ Ending.WriteFault) (O.faults output.old) (O.faults output.new) }
     ensures errors_cause { Causes (result ≡ Ending.ErrorsFault) (E.faults errors.old) (E.faults errors.new) }
-    ensures read_unwritten { TakesFirst (map string_bytes words.now) (Ok line.now) (F.named files.old)
+    ensures read_unwritten { ReadsInputFirst (map string_bytes words.now) (Ok line.now) (F.named files.old)
         → result ≡ Ending.ReadFault → (output.new ≡ output.old) × (errors.new ≡ errors.old) }
     ensures kind { may_end line.now result ≡ true }
     ensures whole { IfSome (F.named files.old) (λ named. takes_input (Ok line.now) ≡ true
-        → reads_first (map string_bytes words.now) named (Ok line.now) ≡ false
-        → Keeps (InLine (map string_bytes words.now) named (Ok line.now) result (I.left input.new))
+        → reads_input_first (map string_bytes words.now) named (Ok line.now) ≡ false
+        → HasAllPut (InLine (map string_bytes words.now) named (Ok line.now) result (I.left input.new))
         (outcome_over (map string_bytes words.now) line.now named) result (I.left input.old)
         (O.held output.old) (O.held output.new) (E.held errors.old) (E.held errors.new)) }
     ensures no_input { takes_input (Ok line.now) ≡ false → (input.new ≡ input.old) × (result ≢ Ending.ReadFault) }
@@ -186,7 +186,7 @@ pub fn command<F: Images, I: Source, O: Sink, E: Sink>(
     ensures file_first { result ≡ Ending.FileFault
         → (input.new ≡ input.old) × (output.new ≡ output.old) × (errors.new ≡ errors.old) }
     ensures files_later { F.faults files.old ≤ F.faults files.new }
-    ensures memory_first { TakesLast (map string_bytes words.now)
+    ensures memory_first { TakesNothingEarly (map string_bytes words.now)
         (line (map string_bytes words.now)) (F.named files.old)
         → result ≡ Ending.OutOfMemory → input.new ≡ input.old }
     ensures memory_unwritten { sweeps (line (map string_bytes words.now)) ≡ false → result ≡ Ending.OutOfMemory
@@ -200,13 +200,13 @@ pub fn command<F: Images, I: Source, O: Sink, E: Sink>(
         → (files.new ≡ files.old) × (result ≢ Ending.FileFault) }
     ensures no_errors { takes_input (line (map string_bytes words.now)) ≡ false → is_silent result ≡ true
         → errors.new ≡ errors.old }
-    ensures read_unwritten { TakesFirst (map string_bytes words.now)
+    ensures read_unwritten { ReadsInputFirst (map string_bytes words.now)
         (line (map string_bytes words.now)) (F.named files.old)
         → result ≡ Ending.ReadFault → (output.new ≡ output.old) × (errors.new ≡ errors.old) }
     ensures kind { IfOk (line (map string_bytes words.now)) (λ l. may_end l result ≡ true) }
     ensures whole { IfSome (F.named files.old) (λ named. takes_input (line (map string_bytes words.now)) ≡ true
-        → reads_first (map string_bytes words.now) named (line (map string_bytes words.now)) ≡ false
-        → Keeps (InLine (map string_bytes words.now) named (line (map string_bytes words.now))
+        → reads_input_first (map string_bytes words.now) named (line (map string_bytes words.now)) ≡ false
+        → HasAllPut (InLine (map string_bytes words.now) named (line (map string_bytes words.now))
         result (I.left input.new))
         (result_of (map string_bytes words.now) named) result (I.left input.old)
         (O.held output.old) (O.held output.new) (E.held errors.old) (E.held errors.new)) }

@@ -45,6 +45,7 @@ impl Program {
 }
 
 /// The machine of an image before its first step, with its arguments. Err is want of memory.
+#[inline(always)]
 pub fn open_machine(
     alloc: Global,
     bytes: &[u8],

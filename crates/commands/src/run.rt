@@ -32,7 +32,7 @@ ghost use Rattle.commands.specs.Lines.{ends_run};
 ghost use Rattle.commands.specs.Programs.{arguments_of, outcome_over, run_line_of};
 ghost use Rattle.commands.specs.Promises.{is_failure};
 ghost use Rattle.commands.specs.Meets.{now, Meets};
-ghost use Rattle.commands.specs.Whole.{InLine, InRun, Keeps};
+ghost use Rattle.commands.specs.Whole.{InLine, InRun, HasAllPut};
 ghost use Rattle.commands.specs.Passing.{InFile};
 
 use crate::files::{ending_after_line, file_bytes};
@@ -106,7 +106,7 @@ fn run_machine<I: Source, O: Sink, E: Sink>(
     ensures no_file { result ≢ Ending.FileFault }
     ensures no_memory { result ≢ Ending.OutOfMemory }
     ensures kind { ends_run result ≡ true }
-    ensures whole { Keeps (InRun machine.old.parts budget result (I.left input.new))
+    ensures whole { HasAllPut (InRun machine.old.parts budget result (I.left input.new))
         (λ i. Some (outcome_of_run i (run (with_input machine.old.parts i) budget))) result (I.left input.old)
         (O.held output.old) (O.held output.new) (E.held errors.old) (E.held errors.new) }
 {
@@ -143,7 +143,7 @@ fn run_image<I: Source, O: Sink, E: Sink>(
     ensures memory_first { result ≡ Ending.OutOfMemory
         → (input.new ≡ input.old) × (output.new ≡ output.old) × (errors.new ≡ errors.old) }
     ensures kind { ends_run result ≡ true }
-    ensures whole { Keeps (InFile bytes.now (map string_bytes words.now) program.now result (I.left input.new))
+    ensures whole { HasAllPut (InFile bytes.now (map string_bytes words.now) program.now result (I.left input.new))
         (λ i. Some (outcome_of_image bytes.now (arguments_of (map string_bytes words.now) program.now)
         i program.now.length program.now.budget program.now.pages (elf bytes.now program.now.pages)))
         result (I.left input.old)
@@ -196,7 +196,7 @@ pub fn run_file<F: Images, I: Source, O: Sink, E: Sink>(
     ensures errors_cause { Causes (result ≡ Ending.ErrorsFault) (E.faults errors.old) (E.faults errors.new) }
     ensures kind { ends_run result ≡ true }
     ensures whole { IfSome (F.named files.old)
-        (λ named. Keeps (InLine (map string_bytes words.now) named (Ok (run_line_of program.now))
+        (λ named. HasAllPut (InLine (map string_bytes words.now) named (Ok (run_line_of program.now))
         result (I.left input.new))
         (outcome_over (map string_bytes words.now) (run_line_of program.now) named) result (I.left input.old)
         (O.held output.old) (O.held output.new) (E.held errors.old) (E.held errors.new)) }

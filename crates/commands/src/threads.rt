@@ -34,7 +34,7 @@ ghost use Rattle.commands.specs.Endings.{stop_by};
 ghost use Rattle.commands.specs.Lines.{ends_threads};
 ghost use Rattle.commands.specs.Programs.{arguments_of, opening_of};
 ghost use Rattle.commands.specs.Meets.{now, Meets};
-ghost use Rattle.commands.specs.Whole.{InWorld, Keeps};
+ghost use Rattle.commands.specs.Whole.{InWorld, HasAllPut};
 ghost use Rattle.commands.specs.Passing.{InSchedule};
 
 use crate::files::ending_after_line;
@@ -170,7 +170,7 @@ fn run_world<I: Source, O: Sink, E: Sink>(
     ensures no_file { result ≢ Ending.FileFault }
     ensures no_memory { result ≢ Ending.OutOfMemory }
     ensures kind { ends_threads result ≡ true }
-    ensures whole { Keeps (InWorld schedule.now world.old.world budget result (I.left input.new))
+    ensures whole { HasAllPut (InWorld schedule.now world.old.world budget result (I.left input.new))
         (λ i. Some (outcome_of_world i (model.threads schedule.now budget (with_input world.old.world i)))) result
         (I.left input.old) (O.held output.old) (O.held output.new) (E.held errors.old) (E.held errors.new) }
 {
@@ -212,7 +212,7 @@ pub fn thread_image<I: Source, O: Sink, E: Sink>(
     ensures memory_first { result ≡ Ending.OutOfMemory
         → (input.new ≡ input.old) × (output.new ≡ output.old) × (errors.new ≡ errors.old) }
     ensures kind { ends_threads result ≡ true }
-    ensures whole { Keeps (InSchedule text.now
+    ensures whole { HasAllPut (InSchedule text.now
         (opening_of bytes.now (seen_image image.now) (map string_bytes words.now) program.now) program.now.budget
         result (I.left input.new))
         (λ i. Some (outcome_of_schedule i program.now.budget

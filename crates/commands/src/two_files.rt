@@ -38,7 +38,7 @@ ghost use Rattle.commands.specs.SecondFiles.{
   TakesLater,
 };
 ghost use Rattle.commands.specs.Passing.{InBoth, InImage, InNamed, InSecond};
-ghost use Rattle.commands.specs.Whole.{Keeps};
+ghost use Rattle.commands.specs.Whole.{HasAllPut};
 
 use crate::debugger::debug_image;
 use crate::files::{ending_after_line, file_bytes};
@@ -92,7 +92,7 @@ fn obey_text<I: Source, O: Sink, E: Sink>(
     ensures read_unwritten { text_reads_first second text.now ≡ true → result ≡ Ending.ReadFault
         → (output.new ≡ output.old) × (errors.new ≡ errors.old) }
     ensures kind { ends_by second result ≡ true }
-    ensures whole { text_reads_first second text.now ≡ false → Keeps (InSecond second text.now
+    ensures whole { text_reads_first second text.now ≡ false → HasAllPut (InSecond second text.now
         (opening_of bytes.now (seen_image image.now) (map string_bytes words.now) program.now) program.now.budget
         result (I.left input.new))
         (λ i. Some (outcome_from second text.now i program.now.budget
@@ -142,7 +142,7 @@ fn obey_bytes<I: Source, O: Sink, E: Sink>(
     ensures read_unwritten { text_reads_first second text.now ≡ true → result ≡ Ending.ReadFault
         → (output.new ≡ output.old) × (errors.new ≡ errors.old) }
     ensures kind { ends_by second result ≡ true }
-    ensures whole { text_reads_first second text.now ≡ false → Keeps
+    ensures whole { text_reads_first second text.now ≡ false → HasAllPut
         (InImage second bytes.now (map string_bytes words.now) program.now text.now result (I.left input.new))
         (λ i. Some (outcome_by second bytes.now text.now
         (arguments_of (map string_bytes words.now) program.now) i program.now (elf bytes.now program.now.pages)))
@@ -201,7 +201,7 @@ fn obey_second<F: Images, I: Source, O: Sink, E: Sink>(
         → result ≡ Ending.ReadFault → (output.new ≡ output.old) × (errors.new ≡ errors.old) }
     ensures kind { ends_by second result ≡ true }
     ensures whole { IfSome (F.named files.old)
-        (λ named. file_reads_first second (file_at (map string_bytes words.now) named place) ≡ false → Keeps
+        (λ named. file_reads_first second (file_at (map string_bytes words.now) named place) ≡ false → HasAllPut
         (InNamed second bytes.now (map string_bytes words.now) program.now place named result (I.left input.new))
         (outcome_with second bytes.now (map string_bytes words.now) program.now place named) result (I.left input.old)
         (O.held output.old) (O.held output.new) (E.held errors.old) (E.held errors.new)) }
@@ -262,7 +262,7 @@ pub fn obey_files<F: Images, I: Source, O: Sink, E: Sink>(
         → result ≡ Ending.ReadFault → (output.new ≡ output.old) × (errors.new ≡ errors.old) }
     ensures kind { ends_by second result ≡ true }
     ensures whole { IfSome (F.named files.old)
-        (λ named. file_reads_first second (file_at (map string_bytes words.now) named place) ≡ false → Keeps
+        (λ named. file_reads_first second (file_at (map string_bytes words.now) named place) ≡ false → HasAllPut
         (InBoth second (map string_bytes words.now) program.now place named result (I.left input.new))
         (outcome_of_both second (map string_bytes words.now) program.now place named) result (I.left input.old)
         (O.held output.old) (O.held output.new) (E.held errors.old) (E.held errors.new)) }

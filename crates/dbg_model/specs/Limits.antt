@@ -23,7 +23,7 @@ use Rattle.a64_effects.specs.LoadStore.{Transferring, Exchanging, elements_from,
 use Rattle.a64_effects.specs.Operations.{Operation, computes, flows, transfers, exchanges, copies, operation_of}
 use Rattle.sve_effects.specs.FirstFault.{first_fault_row, first_refused, loaded_unless}
 use Rattle.sve_effects.specs.FirstFaultParts.{first_fault_loaded}
-use Rattle.sve_effects.specs.Row.{Row as VectorRow, done_by as vector_done_by, done_by_way}
+use Rattle.sve_effects.specs.VectorRow.{VectorRow, performed_by as vector_performed_by, done_by_way}
 use Rattle.sve_effects.specs.Rows.{row as vector_row}
 use Rattle.sve_effects.specs.VectorElements.{MemoryRow, Way, Layout, elements_of, row_layout}
 use Rattle.sve_effects.specs.VectorLoadStore.{after_load, element_stored, has_sp_base, is_misaligned, load_row, loaded_to, store_row, stored_to, unless_misaligned}
@@ -165,7 +165,7 @@ module _ (c : Core) (w : Vectors) (m : Memory) where
   way_limit Way.first_faults r = first_fault_limit false r (elements_of (row_layout r c w))
   way_limit Way.non_faults r = first_fault_limit true r (elements_of (row_layout r c w))
 
-  vector_row_limit : (r : VectorRow) → Leaves (vector_done_by r c w m)
+  vector_row_limit : (r : VectorRow) → Leaves (vector_performed_by r c w m)
   vector_row_limit (VectorRow.by_lanes f) = refl
   vector_row_limit (VectorRow.by_registers f) = refl
   vector_row_limit (VectorRow.memory r) = way_limit r.way r

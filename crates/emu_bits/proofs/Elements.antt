@@ -8,7 +8,7 @@ use Rattle.std.proofs.lemmas.Bool.Decides.{nat_tests}
 use Rattle.std.specs.Int.{from_bool}
 use Rattle.std.specs.Int.Count.{count_leading_zeros}
 use Rattle.emu_bits.specs.Fields.{bit}
-use Rattle.emu_bits.specs.Bitmask.{rotated, repeated, highest_set, element_log, is_refused, element, with_elements, bitmask_of}
+use Rattle.emu_bits.specs.Bitmask.{rotated, repeated, highest_set, element_log, has_no_value, element, with_elements, bitmask_of}
 use Rattle.emu_bits.proofs.AllBelow.{all_below, each_below, gives, given}
 use Rattle.emu_bits.proofs.Places.{some_power}
 
@@ -57,7 +57,7 @@ pub record Accepted (w n imms h : ℕ) : Type 0 where
   pub narrow : w ≡ 32 → n ≡ 1 → ⊥
   pub mixed : (imms % 2 ^ h ≡ 2 ^ h - 1 → ⊥)
 
-pub accepted : (w n imms h : ℕ) → is_refused w n imms h ≡ false → Accepted w n imms h
+pub accepted : (w n imms h : ℕ) → has_no_value w n imms h ≡ false → Accepted w n imms h
 accepted w n imms h e = record {
   some = λ q. grind (arith, nat_tests, e, q);
   narrow = λ q r. grind (arith, nat_tests, e, q, r);
@@ -115,13 +115,13 @@ pub no_log : (w n immr imms : ℕ) → element_log n imms ≡ None → bitmask_o
 unfolding bitmask_of
 no_log w n immr imms e = ap (with_elements w n immr imms) e
 
-pub refused : (w n immr imms h : ℕ) → element_log n imms ≡ Some h → is_refused w n imms h ≡ true → bitmask_of w n immr imms ≡ None
+pub refused : (w n immr imms h : ℕ) → element_log n imms ≡ Some h → has_no_value w n imms h ≡ true → bitmask_of w n immr imms ≡ None
 unfolding bitmask_of
 refused w n immr imms h e f =
     ap (with_elements w n immr imms) e
     ∙ ap (λ (t : Bool). cond t None (Some (repeated (2 ^ h) (element immr imms h) (w / 2 ^ h)))) f
 
-pub found : (w n immr imms h : ℕ) → element_log n imms ≡ Some h → is_refused w n imms h ≡ false
+pub found : (w n immr imms h : ℕ) → element_log n imms ≡ Some h → has_no_value w n imms h ≡ false
     → bitmask_of w n immr imms ≡ Some (repeated (2 ^ h) (element immr imms h) (w / 2 ^ h))
 unfolding bitmask_of
 found w n immr imms h e f =

@@ -22,8 +22,8 @@ abbrev pub element_log : ℕ → ℕ → Option ℕ
 element_log n imms = highest_set 6 (n * 64 + (63 - imms))
 
 -- There is no bitmask where the element has one bit or is longer than the width, or would be all ones.
-abbrev pub is_refused : ℕ → ℕ → ℕ → ℕ → Bool
-is_refused width n imms h = h == 0 || (width == 32 && n == 1) || imms % 2 ^ h == 2 ^ h - 1
+abbrev pub has_no_value : ℕ → ℕ → ℕ → ℕ → Bool
+has_no_value width n imms h = h == 0 || (width == 32 && n == 1) || imms % 2 ^ h == 2 ^ h - 1
 
 -- An element of 2^h bits has S + 1 ones, rotated right by R, where S and R are the low h bits of imms and immr.
 abbrev pub element : ℕ → ℕ → ℕ → ℕ
@@ -32,7 +32,7 @@ element immr imms h = rotated (2 ^ h) (2 ^ (imms % 2 ^ h + 1) - 1) (immr % 2 ^ h
 abbrev pub with_elements : ℕ → ℕ → ℕ → ℕ → Option ℕ → Option ℕ
 with_elements width n immr imms None = None
 with_elements width n immr imms (Some h) =
-    cond (is_refused width n imms h) None (Some (repeated (2 ^ h) (element immr imms h) (width / 2 ^ h)))
+    cond (has_no_value width n imms h) None (Some (repeated (2 ^ h) (element immr imms h) (width / 2 ^ h)))
 
 -- the bitmask of a width of 32 or 64 bits, or none
 unfoldable pub bitmask_of : ℕ → ℕ → ℕ → ℕ → Option ℕ

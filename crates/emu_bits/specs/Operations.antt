@@ -60,16 +60,16 @@ shifted w shift a k =
 abbrev pub replaced : ℕ → ℕ → ℕ → ℕ → ℕ
 replaced a place n v = a % 2 ^ place + v * 2 ^ place + a / 2 ^ (place + n) * 2 ^ (place + n)
 
--- Of a bitfield move, where s ≥ r bits s:r go to place 0, else bits s:0 go to place w - r: the place that they come
--- from,
+-- In a bitfield move bits s:r go to place 0 where s ≥ r, else bits s:0 go to place w - r. This is the place that the
+-- bits come from.
 abbrev pub field_from : ℕ → ℕ → ℕ
 field_from r s = if nat_le r s then r else 0
 
--- how many they are,
+-- how many bits a bitfield move moves
 abbrev pub field_bits : ℕ → ℕ → ℕ
 field_bits r s = if nat_le r s then s - r + 1 else s + 1
 
--- and the place that they go to
+-- the place that a bitfield move moves them to
 abbrev pub field_to : ℕ → ℕ → ℕ → ℕ
 field_to w r s = if nat_le r s then 0 else w - r
 

@@ -1,7 +1,7 @@
 //! Bitmask immediates: their values, and the fields of a value.
 ghost use Rattle.std.specs.Prelude.{◌≡◌, ℕ, ◌+◌, ◌-◌, ◌*◌, ◌/◌, ◌%◌, ◌^◌, ◌<◌, ◌≤◌, ◌⊎◌, IfSome, IfNone};
 ghost use Rattle.emu_bits.specs.Fields.{bit};
-ghost use Rattle.emu_bits.specs.Bitmask.{bitmask_of, element_log, is_refused, rotated, repeated};
+ghost use Rattle.emu_bits.specs.Bitmask.{bitmask_of, element_log, has_no_value, rotated, repeated};
 ghost use Rattle.emu_bits.specs.LeastFields.{GivesBitmask, IsLeastFields};
 ghost use Rattle.emu_bits.specs.Search.{shrunk, run_start, run_length, guess_n, guess_immr, guess_imms, first_log};
 
@@ -56,7 +56,7 @@ fn element_log(n: bool, imms: u32) -> Option<u32>
 /// Whether elements of 2^log bits have no bitmask.
 fn is_refused(width: u32, n: bool, imms: u32, log: u32) -> bool
     requires { log ≤ 6 }
-    ensures { result ≡ is_refused width (bit n) imms log }
+    ensures { result ≡ has_no_value width (bit n) imms log }
 {
     log == 0 || width == 32 && n || imms % element_size(log) == element_size(log) - 1
 }

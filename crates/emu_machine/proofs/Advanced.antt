@@ -10,7 +10,7 @@ use Rattle.emu_run.specs.Run.{run, until_end}
 use Rattle.emu_run.specs.RunLaws.{behind, run_after_turn, run_one, run_spent, until_end_none}
 use Rattle.io_gate.specs.Streams.{Causes}
 use Rattle.emu_machine.specs.Accesses.{last_accesses, run_accesses}
-use Rattle.emu_machine.specs.Advances.{Advances, AsksCall, EndsBy, IsAhead, IsLast, IsSpent, MatchCall}
+use Rattle.emu_machine.specs.Advances.{Advances, AsksCall, EndsBy, IsAhead, IsLastStep, IsSpent, MatchCall}
 use Rattle.emu_machine.specs.declared.ends.Progress.{Progress}
 use Rattle.emu_machine.specs.declared.ends.Progress.TheVariants.{GoesOn, Trapped, AtCall}
 use Rattle.emu_machine.specs.declared.ends.StepEnd.TheVariants.{Going}
@@ -54,7 +54,7 @@ module _ (m new : MachineState) where
   asked_same : AsksCall (m.parts.steps + 1) m new → new.parts ≡ m.parts
   asked_same a = let from = a.ahead.after in let below = a.below in a.ahead.first (omega (arith, from, below))
 
-  last_same : (d : IsLast (m.parts.steps + 1) m new) → d.at ≡ m.parts
+  last_same : (d : IsLastStep (m.parts.steps + 1) m new) → d.at ≡ m.parts
   last_same d = let from = d.ahead.after in let below = d.below in d.ahead.first (omega (arith, from, below))
 
   spent_turn : is_none m.parts.ended ≡ true → IsSpent (m.parts.steps + 1) m new → (input : List ℕ) → step_from m.parts input ≡ quiet new.parts input
@@ -79,10 +79,10 @@ module _ (m new : MachineState) where
       ∙ ap (λ n. last_accesses (accesses m.parts) t.parts t.input n) none
       ∙ last_none (accesses m.parts) t.parts t.input
 
-  last_turn : IsLast (m.parts.steps + 1) m new → (input : List ℕ) → step_from m.parts input ≡ quiet new.parts input
+  last_turn : IsLastStep (m.parts.steps + 1) m new → (input : List ℕ) → step_from m.parts input ≡ quiet new.parts input
   last_turn d input = subst (λ (x : Parts). step_from x input ≡ quiet new.parts input) (last_same d) (d.turns input)
 
-  last_accesses_of : IsLast (m.parts.steps + 1) m new → new.accesses ≡ accesses m.parts
+  last_accesses_of : IsLastStep (m.parts.steps + 1) m new → new.accesses ≡ accesses m.parts
   last_accesses_of d = d.accesses ∙ ap accesses (last_same d)
 
   pub once_turn : (r : Progress) → is_none m.parts.ended ≡ true → Advances (m.parts.steps + 1) m new r
@@ -168,7 +168,7 @@ module _ (budget : ℕ) (old : Parts) (before : List Access) (p new : MachineSta
       let s = d.spent in
       run_spends budget old new.parts told left ho hp eo ep (leads_ahead budget old p.parts new.parts before p.accesses new.accesses d.ahead told left ho hp eo ep (omega (arith, s)) led) (omega (arith, s))
 
-  pub last_ran : IsLast budget p new → Ran (λ s. run s budget) old new.parts told left ho hp eo ep false
+  pub last_ran : IsLastStep budget p new → Ran (λ s. run s budget) old new.parts told left ho hp eo ep false
   last_ran d =
       let below = d.below in
       run_stops budget old d.at new.parts told left left ho hp hp eo ep ep (leads_ahead budget old p.parts d.at before p.accesses d.log d.ahead told left ho hp eo ep (omega (arith, below)) led) d.ahead.goes d.below
@@ -182,7 +182,7 @@ module _ (budget : ℕ) (old : Parts) (before : List Access) (p new : MachineSta
         (leads_ahead budget old p.parts new.parts before p.accesses new.accesses d.ahead told left ho hp eo ep (omega (arith, s)) led)
         (logs_ahead budget old p.parts new.parts before p.accesses new.accesses d.ahead told left (omega (arith, s)) logs) (omega (arith, s))
 
-    pub last_logs : IsLast budget p new → IfSome told (λ bytes. new.accesses ≡ run_accesses before old bytes budget)
+    pub last_logs : IsLastStep budget p new → IfSome told (λ bytes. new.accesses ≡ run_accesses before old bytes budget)
     last_logs d =
         let below = d.below in
         subst (λ (log : List Access). IfSome told (λ bytes. log ≡ run_accesses before old bytes budget)) (sym d.accesses)

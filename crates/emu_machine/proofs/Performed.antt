@@ -27,7 +27,7 @@ use Rattle.sve_insn.specs.declared.form.SveForm.{SveForm}
 use Rattle.sve_effects.specs.Rows as sve
 use Rattle.sve_effects.specs.FirstFault.{first_fault_row, first_refused, loaded_unless}
 use Rattle.sve_effects.specs.FirstFaultParts.{first_fault_loaded}
-use Rattle.sve_effects.specs.Row.{Row, done_by, done_by_way}
+use Rattle.sve_effects.specs.VectorRow.{VectorRow, performed_by as vector_performed_by, done_by_way}
 use Rattle.sve_effects.specs.Rows.{row}
 use Rattle.sve_effects.specs.VectorElements.{MemoryRow, Way, elements_of, row_layout}
 use Rattle.sve_effects.specs.VectorLoadStore as memory_rows
@@ -35,7 +35,7 @@ use Rattle.a64_effects.specs.declared.transfer.Transfer.{Transfer}
 use Rattle.a64_effects.specs.declared.transfer.Transfer.TheVariants.{Store, Load, LoadSigned, LoadSigned32, Prefetch, StoreVector, LoadVector}
 use Rattle.emu_model.specs.Done.{Done, quietly, traps}
 use Rattle.emu_model.specs.Elements.{Element, reach}
-use Rattle.a64_effects.specs.Flow.{branches_if, is_taken, is_taken_by, digit, tested_bit, target}
+use Rattle.a64_effects.specs.Flow.{branches_if, is_taken, is_taken_by, digit, tested_bit, branch_target}
 use Rattle.a64_effects.specs.Atomic.{exchanged, unless_refused, one_step}
 use Rattle.a64_effects.specs.LoadStore.{Transferring, Exchanging, elements_from, is_misaligned, loaded_to, misaligned, stored_to, tested, transferred, transferred_by, exchanged_by, unless_misaligned, unless_multiple}
 use Rattle.a64_effects.specs.Scalar.{operand}
@@ -126,9 +126,9 @@ module _ (c : Core) (v : Vectors) (m : Memory) where
 
   a64_alone : (form : A64Form) → AsksAlone (A64 form) (a64.performed form c v m)
   a64_alone (Branch op imm26) = λ h. absurd (cc)
-  a64_alone (BranchCond imm19 cond) = λ h. absurd (branches_if_is_other (cond_holds (cond_of cond) c.flags) (target c 19 imm19) h)
-  a64_alone (Compare op sf imm19 rt) = λ h. absurd (branches_if_is_other (is_taken op (operand (width_of sf) c rt)) (target c 19 imm19) h)
-  a64_alone (Test op b5 b40 imm14 rt) = λ h. absurd (branches_if_is_other (is_taken_by op (digit (read_x c rt) (tested_bit b5 b40))) (target c 14 imm14) h)
+  a64_alone (BranchCond imm19 cond) = λ h. absurd (branches_if_is_other (cond_holds (cond_of cond) c.flags) (branch_target c 19 imm19) h)
+  a64_alone (Compare op sf imm19 rt) = λ h. absurd (branches_if_is_other (is_taken op (operand (width_of sf) c rt)) (branch_target c 19 imm19) h)
+  a64_alone (Test op b5 b40 imm14 rt) = λ h. absurd (branches_if_is_other (is_taken_by op (digit (read_x c rt) (tested_bit b5 b40))) (branch_target c 14 imm14) h)
   a64_alone (BranchReg op rn) = λ h. absurd (cc)
   a64_alone (Except Svc imm16) = λ h. (refl, refl)
   a64_alone (Except Brk imm16) = λ h. absurd (cc)
@@ -185,10 +185,10 @@ module _ (c : Core) (v : Vectors) (m : Memory) where
   way_is_other Way.first_faults r = first_fault_is_other false r (elements_of (row_layout r c v))
   way_is_other Way.non_faults r = first_fault_is_other true r (elements_of (row_layout r c v))
 
-  row_is_other : (r : Row) → IsOther (done_by r c v m).effect
-  row_is_other (Row.by_lanes f) = λ h. cc
-  row_is_other (Row.by_registers f) = λ h. cc
-  row_is_other (Row.memory r) = way_is_other r.way r
+  row_is_other : (r : VectorRow) → IsOther (vector_performed_by r c v m).effect
+  row_is_other (VectorRow.by_lanes f) = λ h. cc
+  row_is_other (VectorRow.by_registers f) = λ h. cc
+  row_is_other (VectorRow.memory r) = way_is_other r.way r
 
   sve_is_other : (form : SveForm) → IsOther (sve.performed form c v m).effect
   sve_is_other form = row_is_other (row form)

@@ -72,7 +72,7 @@ pub record IsSpent (budget : ℕ) (old new : MachineState) : Type 0 where
   pub spent : new.parts.steps ≡ budget
 
 -- the last step made `new`, and ended it
-pub record IsLast (budget : ℕ) (old new : MachineState) : Type 0 where
+pub record IsLastStep (budget : ℕ) (old new : MachineState) : Type 0 where
   pub at : Parts
   pub log : List Access
   pub ahead : IsAhead old.parts at old.accesses log
@@ -93,5 +93,5 @@ pub record AsksCall (budget : ℕ) (old new : MachineState) : Type 0 where
 
 abbrev pub Advances : ℕ → MachineState → MachineState → Progress → Type 0
 Advances budget old new GoesOn = IsSpent budget old new
-Advances budget old new Trapped = IsLast budget old new
+Advances budget old new Trapped = IsLastStep budget old new
 Advances budget old new AtCall = AsksCall budget old new

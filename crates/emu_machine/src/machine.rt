@@ -83,6 +83,7 @@ impl Model for Machine {
 
 impl Machine {
     /// A machine before its first step.
+    #[inline(always)]
     pub(crate) fn at_start(
         registers: Registers,
         memory: Mem,

@@ -28,6 +28,7 @@ impl Machine {
     ///
     /// The image was read from these bytes, with `pages` as the greatest number of mapped pages. The arguments are
     /// within their limits, as `are_arguments` tests.
+    #[inline(always)]
     pub fn open(
         alloc: Global,
         bytes: &[u8],
@@ -53,6 +54,7 @@ impl Machine {
     }
 
     /// The machine of an image over pages of which none is mapped, and registers that are all 0.
+    #[inline(always)]
     pub(crate) fn opened(
         mut memory: Pages,
         saved: Vec<Saved>,

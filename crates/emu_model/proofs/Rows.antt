@@ -13,7 +13,7 @@ use Rattle.emu_model.specs.ByteMap.{IsByteMap, put}
 use Rattle.emu_model.specs.Pages.{bytes_at, peeked, with_bytes}
 use Rattle.emu_model.specs.PageEquations.{bytes_at-zero, bytes_at-suc}
 use Rattle.emu_model.specs.SoundState.{IsSoundMemory}
-use Rattle.emu_model.specs.Ranges.{row, written_row}
+use Rattle.emu_model.specs.Ranges.{bytes_in_row, with_bytes_in_row}
 use Rattle.emu_model.proofs.Keys.{tied, same, apart}
 
 -- ---- reading
@@ -22,7 +22,7 @@ byte_peeked : (o : Option Page) (k : ℕ) → page_byte o k ≡ unwrap_or (page_
 byte_peeked None k = refl
 byte_peeked (Some p) k = refl
 
-pub reads : (n : ℕ) (m : Memory) (bytes : FinMap nat_cmp ℕ) (a : ℕ) → IsByteMap m bytes → bytes_at m a n ≡ row bytes a n
+pub reads : (n : ℕ) (m : Memory) (bytes : FinMap nat_cmp ℕ) (a : ℕ) → IsByteMap m bytes → bytes_at m a n ≡ bytes_in_row bytes a n
 reads zero m bytes a is = bytes_at-zero m a
 reads (suc n) m bytes a is =
     bytes_at-suc m a n
@@ -66,27 +66,27 @@ at_first a = omega arith
 not_first : (a k n : ℕ) → k < n → suc n ≤ 2 ^ 64 → address (a + 1 + k) ≡ address a → ⊥
 not_first a k n lt few e = omega arith
 
-pub has_same : (xs : List ℕ) (bytes : FinMap nat_cmp ℕ) (a q : ℕ) → contains_key (written_row bytes a xs) q ≡ contains_key bytes q
+pub has_same : (xs : List ℕ) (bytes : FinMap nat_cmp ℕ) (a q : ℕ) → contains_key (with_bytes_in_row bytes a xs) q ≡ contains_key bytes q
 has_same [] bytes a q = refl
 has_same (x ∷ xs) bytes a q = has_same xs (put bytes (address a) x) (a + 1) q ∙ put_has bytes (address a) x q
 
-pub elsewhere : (xs : List ℕ) (bytes : FinMap nat_cmp ℕ) (a q : ℕ) → ((k : ℕ) → k < length xs → address (a + k) ≢ q) → get (written_row bytes a xs) q ≡ get bytes q
+pub elsewhere : (xs : List ℕ) (bytes : FinMap nat_cmp ℕ) (a q : ℕ) → ((k : ℕ) → k < length xs → address (a + k) ≢ q) → get (with_bytes_in_row bytes a xs) q ≡ get bytes q
 elsewhere [] bytes a q ne = refl
 elsewhere (x ∷ xs) bytes a q ne =
     elsewhere xs (put bytes (address a) x) (a + 1) q (λ k lt e. ne (suc k) (omega arith) (ap address (later a k) ∙ e))
     ∙ put_other bytes (address a) x q (λ e. ne 0 (omega arith) (ap address (at_first a) ∙ sym e))
 
 pub there : (xs : List ℕ) (bytes : FinMap nat_cmp ℕ) (a k : ℕ) → length xs ≤ 2 ^ 64 → k < length xs → contains_key bytes (address (a + k)) ≡ true
-    → get (written_row bytes a xs) (address (a + k)) ≡ Some (get_or xs k 0)
+    → get (with_bytes_in_row bytes a xs) (address (a + k)) ≡ Some (get_or xs k 0)
 there [] bytes a k few lt has = absurd (omega arith)
 there (x ∷ xs) bytes a zero few lt has =
     let here : address (a + 0) ≡ address a = ap address (at_first a) in
-    ap (λ q. get (written_row (put bytes (address a) x) (a + 1) xs) q) here
+    ap (λ q. get (with_bytes_in_row (put bytes (address a) x) (a + 1) xs) q) here
     ∙ elsewhere xs (put bytes (address a) x) (a + 1) (address a) (λ k less e. not_first a k (length xs) less few e)
     ∙ put_there bytes (address a) x (ap (λ q. contains_key bytes q) (sym here) ∙ has)
 there (x ∷ xs) bytes a (suc k) few lt has =
     let next : address (a + suc k) ≡ address (a + 1 + k) = ap address (later a k) in
-    ap (λ q. get (written_row (put bytes (address a) x) (a + 1) xs) q) next
+    ap (λ q. get (with_bytes_in_row (put bytes (address a) x) (a + 1) xs) q) next
     ∙ there xs (put bytes (address a) x) (a + 1) k (omega arith) (omega arith)
     (put_has bytes (address a) x (address (a + 1 + k)) ∙ ap (λ q. contains_key bytes q) (sym next) ∙ has)
 
@@ -122,10 +122,10 @@ put_map m bytes a b (Some p) h is at q =
     ∙ ap (λ o. cond (nat_eq q a) (Some b) o) (is q)
     ∙ sym (peek_after m a b q p at (h (a / page_size) p at))
 
-row_map : (xs : List ℕ) (m : Memory) (bytes : FinMap nat_cmp ℕ) (a : ℕ) → AreWhole m → IsByteMap m bytes → IsByteMap (with_bytes m a xs) (written_row bytes a xs)
+row_map : (xs : List ℕ) (m : Memory) (bytes : FinMap nat_cmp ℕ) (a : ℕ) → AreWhole m → IsByteMap m bytes → IsByteMap (with_bytes m a xs) (with_bytes_in_row bytes a xs)
 row_map [] m bytes a h is = is
 row_map (x ∷ xs) m bytes a h is =
     row_map xs (with_byte m (address a) x) (put bytes (address a) x) (a + 1) (whole_with_byte m (address a) x h) (put_map m bytes (address a) x _ h is refl)
 
-pub writes : (xs : List ℕ) (m : Memory) (bytes : FinMap nat_cmp ℕ) (a : ℕ) → IsSoundMemory m → IsByteMap m bytes → IsByteMap (with_bytes m a xs) (written_row bytes a xs)
+pub writes : (xs : List ℕ) (m : Memory) (bytes : FinMap nat_cmp ℕ) (a : ℕ) → IsSoundMemory m → IsByteMap m bytes → IsByteMap (with_bytes m a xs) (with_bytes_in_row bytes a xs)
 writes xs m bytes a h is = row_map xs m bytes a (λ page p at. (h.pages page p at).count) is

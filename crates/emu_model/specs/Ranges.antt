@@ -9,13 +9,13 @@ use Rattle.emu_model.specs.ByteMap.{put}
 use Rattle.emu_model.specs.Pages.{is_page_in}
 
 -- the bytes of the map at the n addresses from a on, and 0 where it has none
-abbrev pub row : FinMap nat_cmp ℕ → ℕ → ℕ → List ℕ
-row bytes a n = map (λ k. unwrap_or (get bytes (address k)) 0) (range_with_len a n)
+abbrev pub bytes_in_row : FinMap nat_cmp ℕ → ℕ → ℕ → List ℕ
+bytes_in_row bytes a n = map (λ k. unwrap_or (get bytes (address k)) 0) (range_with_len a n)
 
 -- bytes put one after the other from address a on, each where the map has its address
-abbrev pub written_row : FinMap nat_cmp ℕ → ℕ → List ℕ → FinMap nat_cmp ℕ
-written_row bytes a [] = bytes
-written_row bytes a (x ∷ xs) = written_row (put bytes (address a) x) (a + 1) xs
+abbrev pub with_bytes_in_row : FinMap nat_cmp ℕ → ℕ → List ℕ → FinMap nat_cmp ℕ
+with_bytes_in_row bytes a [] = bytes
+with_bytes_in_row bytes a (x ∷ xs) = with_bytes_in_row (put bytes (address a) x) (a + 1) xs
 
 -- the new map has `what` at each address of `count` pages from page `first` on, and at any other what the old one has
 abbrev pub IsSetInPages : ℕ → ℕ → Option ℕ → FinMap nat_cmp ℕ → FinMap nat_cmp ℕ → Type 0

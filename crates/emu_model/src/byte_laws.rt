@@ -8,7 +8,7 @@ ghost use Rattle.emu_model.specs.ByteMap.{IsByteMap};
 ghost use Rattle.emu_model.specs.Pages.{bytes_at, with_bytes, mapped, protected, unmapped};
 ghost use Rattle.emu_model.specs.SoundState.{IsSoundMemory};
 ghost use Rattle.emu_model.specs.declared.access.Rights.{Rights};
-ghost use Rattle.emu_model.specs.Ranges.{IsSetInPages, row, written_row};
+ghost use Rattle.emu_model.specs.Ranges.{IsSetInPages, bytes_in_row, with_bytes_in_row};
 
 /// A memory has no other map of its bytes.
 pub fn memory_has_one_map()
@@ -19,9 +19,9 @@ pub fn memory_has_one_map()
 /// map.
 pub fn ranges_are_of_the_map()
     ensures reads { (m : Memory) (bytes : FinMap nat_cmp ℕ) (a n : ℕ) → IsByteMap m bytes
-        → bytes_at m a n ≡ row bytes a n }
+        → bytes_at m a n ≡ bytes_in_row bytes a n }
     ensures writes { (m : Memory) (bytes : FinMap nat_cmp ℕ) (a : ℕ) (xs : List ℕ) → IsSoundMemory m → IsByteMap m bytes
-        → IsByteMap (with_bytes m a xs) (written_row bytes a xs) }
+        → IsByteMap (with_bytes m a xs) (with_bytes_in_row bytes a xs) }
 {}
 
 /// Where at most 2^64 bytes are written in a row from address a on, byte k stands at address a + k, modulo 2^64, if the
@@ -29,11 +29,11 @@ pub fn ranges_are_of_the_map()
 pub fn rows_are_written_in_place()
     ensures there { (bytes : FinMap nat_cmp ℕ) (a k : ℕ) (xs : List ℕ)
         → length xs ≤ 2 ^ 64 → k < length xs → contains_key bytes (address (a + k)) ≡ true
-        → get (written_row bytes a xs) (address (a + k)) ≡ Some (get_or xs k 0) }
+        → get (with_bytes_in_row bytes a xs) (address (a + k)) ≡ Some (get_or xs k 0) }
     ensures elsewhere { (bytes : FinMap nat_cmp ℕ) (a q : ℕ) (xs : List ℕ)
-        → ((k : ℕ) → k < length xs → address (a + k) ≢ q) → get (written_row bytes a xs) q ≡ get bytes q }
+        → ((k : ℕ) → k < length xs → address (a + k) ≢ q) → get (with_bytes_in_row bytes a xs) q ≡ get bytes q }
     ensures same_addresses { (bytes : FinMap nat_cmp ℕ) (a q : ℕ) (xs : List ℕ)
-        → contains_key (written_row bytes a xs) q ≡ contains_key bytes q }
+        → contains_key (with_bytes_in_row bytes a xs) q ≡ contains_key bytes q }
 {}
 
 /// Pages that are taken away take their addresses from the map, pages that are mapped have a zero at each address, and

@@ -181,10 +181,10 @@ abbrev pub all_gone : World → Bool
 all_gone world = list_all is_gone world.contexts
 
 -- the last context that leaves ends the run with its code
-abbrev pub ended_by : World → ℕ → Option Ended
-ended_by world code = if all_gone world then Some (Exited code) else world.ended
+abbrev pub ended_after_exit : World → ℕ → Option Ended
+ended_after_exit world code = if all_gone world then Some (Exited code) else world.ended
 
 abbrev pub leave_made : World → ℕ → World
 leave_made world k =
-    let ended : Option Ended = ended_by (with_gone world k) (call_argument (context world k).core 0 % 256) in
+    let ended : Option Ended = ended_after_exit (with_gone world k) (call_argument (context world k).core 0 % 256) in
     record (cleared (with_gone world k) (context world k).clear) { steps = world.steps + 1; ended = ended }

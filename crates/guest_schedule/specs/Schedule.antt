@@ -14,8 +14,8 @@ use Rattle.guest_schedule.specs.declared.schedule.ScheduleWhy.TheVariants.{NotUt
 
 -- ---- a turn
 
-abbrev pub number : List ℕ → Result ℕ ScheduleWhy
-number word = option_map_or Ok (number_of_word word) (Err BadNumber)
+abbrev pub schedule_number : List ℕ → Result ℕ ScheduleWhy
+schedule_number word = option_map_or Ok (number_of_word word) (Err BadNumber)
 
 -- the turn of a line of so many words
 abbrev pub turn : ℕ → ℕ → ℕ → Result (ℕ × ℕ) ScheduleWhy
@@ -25,8 +25,8 @@ turn count place steps =
 abbrev pub turn_of : List (List ℕ) → Result (ℕ × ℕ) ScheduleWhy
 turn_of words =
     if nat_lt (length words) 2 then Err MissingWord
-    else and_then (number (get_or words 0 [])) (λ place.
-    and_then (number (get_or words 1 [])) (λ steps. turn (length words) place steps))
+    else and_then (schedule_number (get_or words 0 [])) (λ place.
+    and_then (schedule_number (get_or words 1 [])) (λ steps. turn (length words) place steps))
 
 -- ---- the lines one after the other
 

@@ -1,13 +1,13 @@
 //! The words of a line as a turn.
 ghost use Rattle.std.specs.Prelude.{◌≡◌, ◌≤◌, map, IfOk};
-ghost use Rattle.guest_schedule.specs.Schedule.{number, turn, turn_of};
+ghost use Rattle.guest_schedule.specs.Schedule.{schedule_number, turn, turn_of};
 
 use crate::schedule::ScheduleWhy;
 use line_words::{number_of_word, text_at};
 
 /// The number that a word writes, or BadNumber.
 fn number(word: &str) -> Result<u64, ScheduleWhy>
-    ensures { result ≡ number word.now }
+    ensures { result ≡ schedule_number word.now }
 {
     match number_of_word(word) {
         None => Err(ScheduleWhy::BadNumber),

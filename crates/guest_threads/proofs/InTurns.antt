@@ -3,7 +3,7 @@ use Rattle.std.proofs.Common.{◌≡◌, ◌<◌, ◌≤◌, ℕ, zero, suc, ◌
 use Rattle.std.specs.List.{list_any}
 use Rattle.std.proofs.lemmas.Bool.{eqb-false, eqb-true}
 use Rattle.emu_model.specs.State.{Parts}
-use Rattle.emu_machine.specs.Advances.{AreAlone, AsksCall, IsLast, IsSpent}
+use Rattle.emu_machine.specs.Advances.{AreAlone, AsksCall, IsLastStep, IsSpent}
 use Rattle.emu_machine.specs.declared.ends.Progress.{Progress}
 use Rattle.emu_machine.specs.declared.ends.Progress.TheVariants.{AtCall, GoesOn, Trapped}
 use Rattle.emu_machine.specs.InTurns.{AdvancesInTurns, AreUsedUp, InTurn, IsUsedUp}
@@ -76,7 +76,7 @@ module _ (schedule : List (ℕ × ℕ)) (numbers : List ℕ) (budget : ℕ) (p :
     begun_whole e s = on_from (place_at (next_turn schedule a.turn.place) 0 0) (world_of e.parts a.turn.context a.contexts) (whole e s)
 
     -- one ended the world
-    pub begun_ends : (e : MachineState) → IsLast a.turn.until a.machine e → FollowsToEnd schedule budget p w (world_of e.parts a.turn.context a.contexts)
+    pub begun_ends : (e : MachineState) → IsLastStep a.turn.until a.machine e → FollowsToEnd schedule budget p w (world_of e.parts a.turn.context a.contexts)
     begun_ends e s =
         let v : World = world_of e.parts a.turn.context a.contexts in
         let ends : AdvancesToEnd a.turn.until (taken_by_context a.turn.context b.before) v = record {

@@ -15,7 +15,7 @@ use Rattle.emu_run.specs.declared.thread.Standing.TheVariants.{Ready, Waiting, G
 use Rattle.emu_run.specs.declared.thread.ThreadErrno.{ThreadErrno}
 use Rattle.emu_run.specs.declared.thread.ThreadErrno.TheVariants.{EAGAIN, EFAULT, EINVAL, ENOSYS}
 use Rattle.emu_run.specs.declared.thread.ThreadCall.{ThreadCall}
-use Rattle.emu_run.specs.ThreadCall.{action, action_of, thread_call, started, started_core, clears_child, parent_told, with_started, starting, futex, waiting, operation, ThreadAction, fails, answers, starts, waits, wakes, clears, leaves, thread_id, answered, error_number, wait_made, wake_made, clear_made, leave_made, start_made, cleared, with_gone, all_gone, ended_by}
+use Rattle.emu_run.specs.ThreadCall.{action, action_of, thread_call, started, started_core, clears_child, parent_told, with_started, starting, futex, waiting, operation, ThreadAction, fails, answers, starts, waits, wakes, clears, leaves, thread_id, answered, error_number, wait_made, wake_made, clear_made, leave_made, start_made, cleared, with_gone, all_gone, ended_after_exit}
 use Rattle.emu_run.specs.Threads.{thread_call_done, quietly}
 use Rattle.emu_run.specs.Worlds.{World, Context, context, no_context, parts_with, with_context, with_woken, wake_count}
 use Rattle.guest_contexts.proofs.Laid.{woken_ready}
@@ -153,7 +153,7 @@ module _ (h : WorldHeld) (calling : IsCalling h) where
   pub made_leave : (code : Option ℕ) (end : StepEnd) (one two new : WorldHeld) → one ≡ record h { world = with_gone h.world h.world.last }
       → two ≡ record one { world = cleared one.world (context one.world one.world.last).clear }
       → new ≡ record two { world = record two.world { steps = two.world.steps + 1; ended = ended_with code two.world.ended } }
-      → ended_with code None ≡ ended_by (with_gone h.world h.world.last) (call_argument (context h.world h.world.last).core 0 % 256)
+      → ended_with code None ≡ ended_after_exit (with_gone h.world h.world.last) (call_argument (context h.world h.world.last).core 0 % 256)
       → end ≡ step_end (ended_with code None) → IsMade leaves h new end
   made_leave code end one two new gone clear counted by ends =
       let w : World = h.world in
@@ -162,7 +162,7 @@ module _ (h : WorldHeld) (calling : IsCalling h) where
       let a : ℕ = (context w k).clear in
       let kept = cleared_kept g a in
       let same : (context g k).clear ≡ a = ap (λ (c : Context). c.clear) (get_or-set_same w.contexts k (record (context w k) { standing = Gone }) no_context calling.within) in
-      let ended : ended_with code (cleared g a).ended ≡ ended_by g (call_argument (context w k).core 0 % 256) =
+      let ended : ended_with code (cleared g a).ended ≡ ended_after_exit g (call_argument (context w k).core 0 % 256) =
       ap (λ (e : Option Ended). ended_with code e) (kept.1 ∙ none) ∙ by in
       made_by leaves h new end (leave_made w k) (λ input. refl)
       (counted
@@ -174,10 +174,10 @@ module _ (h : WorldHeld) (calling : IsCalling h) where
       (cleared_last g a) (ends ∙ ap step_end by)
 
   -- what the last step ends the world with
-  pub ended_all : (g : World) (code x : ℕ) → all_gone g ≡ true → code ≡ x → ended_with (Some code) None ≡ ended_by g x
+  pub ended_all : (g : World) (code x : ℕ) → all_gone g ≡ true → code ≡ x → ended_with (Some code) None ≡ ended_after_exit g x
   ended_all g code x all is = ap (λ (n : ℕ). Some (Exited n)) is ∙ sym (ap (λ (b : Bool). if b then Some (Exited x) else g.ended) all)
 
-  pub ended_some : (x : ℕ) → all_gone (with_gone h.world h.world.last) ≡ false → ended_with None None ≡ ended_by (with_gone h.world h.world.last) x
+  pub ended_some : (x : ℕ) → all_gone (with_gone h.world h.world.last) ≡ false → ended_with None None ≡ ended_after_exit (with_gone h.world h.world.last) x
   ended_some x some = sym none ∙ sym (ap (λ (b : Bool). if b then Some (Exited x) else h.world.ended) some)
 
   pub gone_room : (one two : WorldHeld) → one ≡ record h { world = with_gone h.world h.world.last } → two ≡ record one { world = cleared one.world (context one.world one.world.last).clear }

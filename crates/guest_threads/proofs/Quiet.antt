@@ -13,7 +13,7 @@ use Rattle.emu_run.specs.declared.insn.Insn.{Insn}
 use Rattle.emu_run.specs.declared.insn.Insn.TheVariants.{A64}
 use Rattle.emu_run.specs.Step.{accesses, decode, step_from}
 use Rattle.emu_system.specs.SystemCall.{Stepped, quiet}
-use Rattle.emu_machine.specs.Advances.{Advances, AreAlone, AsksCall, IsAlone, IsLast, IsSpent}
+use Rattle.emu_machine.specs.Advances.{Advances, AreAlone, AsksCall, IsAlone, IsLastStep, IsSpent}
 use Rattle.emu_machine.specs.declared.ends.Progress.{Progress}
 use Rattle.emu_machine.specs.declared.ends.Progress.TheVariants.{GoesOn, AtCall, Trapped as HasTrapped}
 use Rattle.emu_machine.specs.declared.ends.StepEnd.{StepEnd}
@@ -93,7 +93,7 @@ module _ (until : ℕ) (s n : MachineState) (last : ℕ) (cs : List Context) (h 
     most = let below = d.below in omega (arith, below);
   })
 
-  pub last_ends : IsLast until s n → AdvancesToEnd until h.world (world_of n.parts last cs)
+  pub last_ends : IsLastStep until s n → AdvancesToEnd until h.world (world_of n.parts last cs)
   last_ends d = subst (λ (x : WorldHeld). AdvancesToEnd until x.world (world_of n.parts last cs)) is (record {
     count = d.ahead.alone.0;
     at = world_of d.at last cs;

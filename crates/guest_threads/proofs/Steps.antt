@@ -9,7 +9,7 @@ use Rattle.emu_run.specs.Step.{accesses, step, step_from}
 use Rattle.emu_machine.specs.Ends as machine
 use Rattle.emu_machine.specs.Ends.{LeftOf}
 use Rattle.emu_run.specs.declared.thread.Standing.TheVariants.{Ready}
-use Rattle.emu_run.specs.ThreadCall.{ThreadAction, fails, answers, starts, waits, wakes, clears, leaves, alone, action, action_of, all_gone, thread_call, with_gone, ended_by}
+use Rattle.emu_run.specs.ThreadCall.{ThreadAction, fails, answers, starts, waits, wakes, clears, leaves, alone, action, action_of, all_gone, thread_call, with_gone, ended_after_exit}
 use Rattle.emu_system.specs.SystemCall.{Stepped, call_argument}
 use Rattle.emu_run.specs.declared.thread.ThreadCall.{ThreadCall}
 use Rattle.emu_run.specs.declared.thread.ThreadCall.TheVariants.{Clone, Futex, Exit as ExitCall, SetTidAddress, Gettid, Alone}
@@ -108,8 +108,8 @@ module _ (w : World) (k : ℕ) (input : List ℕ) where
   done_last (clears a) = refl
   done_last leaves =
       elim (nat_eq (context w k).clear 0 || is_some (refused w.memory (context w k).clear 4 ToWrite)) as (λ b.
-      with_world (λ v. taken_by_context k (without_monitors v)) (quietly (record (if b then with_gone (taken_by_context k w) k else with_woken (record (with_gone (taken_by_context k w) k) { memory = stored w.memory (context w k).clear 4 0 }) (context w k).clear 1) { steps = w.steps + 1; ended = ended_by (with_gone w k) (call_argument (context w k).core 0 % 256) }) input)
-      ≡ with_world (λ v. taken_by_context k (without_monitors v)) (quietly (record (if b then with_gone w k else with_woken (record (with_gone w k) { memory = stored w.memory (context w k).clear 4 0 }) (context w k).clear 1) { steps = w.steps + 1; ended = ended_by (with_gone w k) (call_argument (context w k).core 0 % 256) }) input)) [
+      with_world (λ v. taken_by_context k (without_monitors v)) (quietly (record (if b then with_gone (taken_by_context k w) k else with_woken (record (with_gone (taken_by_context k w) k) { memory = stored w.memory (context w k).clear 4 0 }) (context w k).clear 1) { steps = w.steps + 1; ended = ended_after_exit (with_gone w k) (call_argument (context w k).core 0 % 256) }) input)
+      ≡ with_world (λ v. taken_by_context k (without_monitors v)) (quietly (record (if b then with_gone w k else with_woken (record (with_gone w k) { memory = stored w.memory (context w k).clear 4 0 }) (context w k).clear 1) { steps = w.steps + 1; ended = ended_after_exit (with_gone w k) (call_argument (context w k).core 0 % 256) }) input)) [
         | true ↦ refl
         | false ↦ refl
       ]

@@ -6,7 +6,7 @@ use Rattle.emu_model.specs.Done.{went_on_with, went_well}
 use Rattle.emu_model.specs.State.{Core, Vectors}
 use Rattle.a64_effects.specs.declared.groups.Group.TheVariants.{Data, BitMoves}
 use Rattle.a64_effects.specs.Effects.{performed, performed_by}
-use Rattle.a64_effects.specs.Groups.{bit_move, computed, copied_by, group, group_of, scalar}
+use Rattle.a64_effects.specs.Groups.{bit_move, computed, copied_by, group, group_of, after_data}
 use Rattle.a64_effects.specs.Operations.{Operation, computes, flows, transfers, exchanges, copies, operation_of}
 
 module _ (c : Core) (v : Vectors) (m : Memory) where
@@ -24,7 +24,7 @@ module _ (c : Core) (v : Vectors) (m : Memory) where
   bit_move_operation_done (exchanges row) e = absurd (cc)
   bit_move_operation_done (copies after) e = refl
 
-pub scalar_done : (form : A64Form) (c : Core) (v : Vectors) (m : Memory) → group_of form ≡ Data → performed form c v m ≡ went_well (scalar form c) v m
+pub scalar_done : (form : A64Form) (c : Core) (v : Vectors) (m : Memory) → group_of form ≡ Data → performed form c v m ≡ went_well (after_data form c) v m
 scalar_done form c v m e = data_operation_done c v m (operation_of form) e
 
 pub bit_move_done : (form : A64Form) (c : Core) (v : Vectors) (m : Memory) → group_of form ≡ BitMoves → performed form c v m ≡ went_on_with (bit_move form c v) m

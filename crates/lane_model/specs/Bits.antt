@@ -2,8 +2,8 @@
 -- Manual for A-profile (DDI 0487), B1 'The AArch64 Application Level Programmers' Model', SVE predicate registers, and
 -- ActivePredicateElement of J1.
 --
--- A lane of e bits has the field of e / 8 bits from bit k * e / 8 on, and is set, or active, where the lowest of them
--- is 1; the others are never looked at.
+-- Lane k, of e bits, has the field of e / 8 bits from bit k * e / 8 on. It is set, or active, where the lowest of them
+-- is 1, whatever the others are.
 use Rattle.std.specs.Prelude.{ℕ, ◌*◌, ◌/◌, ◌%◌, Bool, false, nat_eq, if◌then◌else◌, List, get_or}
 use Rattle.lane_model.specs.Lists.{each}
 

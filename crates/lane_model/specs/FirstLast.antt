@@ -15,7 +15,7 @@ abbrev pub first_where : ℕ → (ℕ → Bool) → Option ℕ
 first_where zero test = None
 first_where (suc n) test = option_or (first_where n test) (if_meets test n)
 
--- the greatest
+-- the greatest number below n that meets a test
 abbrev pub last_where : ℕ → (ℕ → Bool) → Option ℕ
 last_where zero test = None
 last_where (suc n) test = option_or (if_meets test n) (last_where n test)

@@ -21,13 +21,13 @@ taken a b scalar none Zero = none
 abbrev pub concatenated : ℕ → ℕ → LaneSource
 concatenated n j = if nat_lt j n then FirstLane j else SecondLane (j - n)
 
--- an even lane is of the first source, an odd lane of the second
-abbrev pub in_turn : ℕ → ℕ → LaneSource
-in_turn k j = if nat_eq (k % 2) 0 then FirstLane j else SecondLane j
+-- an even lane k of the result is lane j of the first source, an odd one lane j of the second
+abbrev pub by_parity : ℕ → ℕ → LaneSource
+by_parity k j = if nat_eq (k % 2) 0 then FirstLane j else SecondLane j
 
 -- lanes 2j and 2j + 1 are lane j of the first and of the second source, in zip2 from j = n / 2 on
 abbrev pub zip_place : Bool → ℕ → ℕ → LaneSource
-zip_place second n k = in_turn k (bit second * (n / 2) + k / 2)
+zip_place second n k = by_parity k (bit second * (n / 2) + k / 2)
 
 -- lane 2k of both sources one after the other, in uzp2 lane 2k + 1
 abbrev pub uzp_place : Bool → ℕ → ℕ → LaneSource
@@ -35,7 +35,7 @@ uzp_place second n k = concatenated n (2 * k + bit second)
 
 -- lanes 2j and 2j + 1 are lane 2j of the first and of the second source, in trn2 lane 2j + 1
 abbrev pub trn_place : Bool → ℕ → LaneSource
-trn_place second k = in_turn k (2 * (k / 2) + bit second)
+trn_place second k = by_parity k (2 * (k / 2) + bit second)
 
 -- from lane `from` on of both sources one after the other; `from` is 0 where it is n or more
 abbrev pub ext_place : ℕ → ℕ → ℕ → LaneSource

@@ -27,7 +27,7 @@ is_at place k = option_map_or (nat_eq k) place false
 abbrev pub is_behind : Option ℕ → ℕ → Bool
 is_behind place k = option_map_or (λ j. nat_lt j k) place true
 
--- k is before the place, or it is the place and that counts, or there is none
+-- k is before the place, or at it where that is included, or there is none
 abbrev pub is_upto : Bool → Option ℕ → ℕ → Bool
 is_upto inclusive None k = true
 is_upto inclusive (Some j) k = if inclusive then nat_le k j else nat_lt k j
@@ -95,8 +95,8 @@ broken_next m g a old = each m (λ k. last_is_set m (is_set g) (is_set a) && is_
 -- ---- first and next
 
 -- pfirst: as before, and the first active bit is 1
-abbrev pub with_first : ℕ → List Bool → List Bool → List Bool
-with_first m g old = each m (λ k. is_at (first_where m (is_set g)) k || is_set old k)
+abbrev pub with_first_active : ℕ → List Bool → List Bool → List Bool
+with_first_active m g old = each m (λ k. is_at (first_where m (is_set g)) k || is_set old k)
 
 -- pnext: the first active lane behind the last set lane, alone
 abbrev pub next_lane : ℕ → ℕ → List Bool → List Bool → Option ℕ

@@ -1,7 +1,7 @@
 //! Permutes that take lanes of two sources in turn, and those that take every other lane of both.
 ghost use Rattle.std.specs.Prelude.{◌≡◌, ◌≤◌, ◌%◌, ◌/◌, ◌+◌, ◌*◌, length};
 ghost use Rattle.lane_model.specs.Fields.{bit};
-ghost use Rattle.lane_model.specs.Permute.{in_turn, concatenated, zip_place, uzp_place, trn_place};
+ghost use Rattle.lane_model.specs.Permute.{by_parity, concatenated, zip_place, uzp_place, trn_place};
 ghost use Rattle.lane_permute.specs.Slices.{IsPermuted, number_at};
 
 use lane_pack::Lane;
@@ -58,7 +58,7 @@ fn pairs_from<T: Lane>(a: &[T], b: &[T], start: usize, out: &mut [T])
     requires half { start + length out.old / 2 ≤ length out.old }
     requires first { length a.now ≡ length out.old }
     requires second { length b.now ≡ length out.old }
-    ensures { IsPermuted T.number a.now b.now 0 (λ k. in_turn k (start + k / 2)) out.new }
+    ensures { IsPermuted T.number a.now b.now 0 (λ k. by_parity k (start + k / 2)) out.new }
 {
     for j in 0..out.len() / 2 {
         out[2 * j] = a[start + j];
@@ -73,7 +73,7 @@ fn pairs_of_pairs<T: Lane>(a: &[T], b: &[T], odd: usize, out: &mut [T])
     requires odd { odd ≤ 1 }
     requires first { length a.now ≡ length out.old }
     requires second { length b.now ≡ length out.old }
-    ensures { IsPermuted T.number a.now b.now 0 (λ k. in_turn k (2 * (k / 2) + odd)) out.new }
+    ensures { IsPermuted T.number a.now b.now 0 (λ k. by_parity k (2 * (k / 2) + odd)) out.new }
 {
     for j in 0..out.len() / 2 {
         out[2 * j] = a[2 * j + odd];

@@ -122,14 +122,14 @@ arguments labels ts = all_some (map (argument labels) (slice_split (is_sign comm
 abbrev pub stored_number : ℕ → ℤ → Option ℕ
 stored_number b x = if fits b x then Some (modulo b x) else None
 
-abbrev pub stored : ℕ → Argument → Option Target
-stored b (number x) = option_map Address (stored_number b x)
-stored b (label n) = Some (Label n)
+abbrev pub target_in : ℕ → Argument → Option Target
+target_in b (number x) = option_map Address (stored_number b x)
+target_in b (label n) = Some (Label n)
 
 -- numbers of so many bytes each
 abbrev pub numbers : ℕ → Option (List Argument) → Result (List Target) ListingWhy
 numbers size xs =
-    and_then (ok_or xs BadOperands) (λ xs. ok_or (all_some (map (stored (8 * size)) xs)) OutOfRange)
+    and_then (ok_or xs BadOperands) (λ xs. ok_or (all_some (map (target_in (8 * size)) xs)) OutOfRange)
 
 -- ---- strings
 

@@ -79,8 +79,8 @@ number_piece n (Address x) = bytes (little_bytes n x)
 number_piece n (Label l) = address l
 
 -- bytes from a place up to a multiple of n
-abbrev pub filling : ℕ → ℕ → ℕ
-filling n place = (n - place % n) % n
+abbrev pub padding : ℕ → ℕ → ℕ
+padding n place = (n - place % n) % n
 
 -- what a directive leaves at a place
 abbrev pub directive_pieces : {I : Type 0} → Directive → ℕ → List (Piece I)
@@ -89,7 +89,7 @@ directive_pieces Data place = []
 directive_pieces (Numbers n ts) place = map (number_piece n) ts
 directive_pieces (Ascii text) place = bytes text ∷ []
 directive_pieces (Zero n) place = bytes (replicate n 0) ∷ []
-directive_pieces (Align n) place = bytes (replicate (filling n place) 0) ∷ []
+directive_pieces (Align n) place = bytes (replicate (padding n place) 0) ∷ []
 directive_pieces (Bss n) place = []
 directive_pieces (Entry l) place = mention l ∷ []
 

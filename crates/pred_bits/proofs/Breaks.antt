@@ -9,7 +9,7 @@ use Rattle.lane_model.specs.Lists.{each}
 use Rattle.lane_model.proofs.Bits.{each_bit_same, get_or-each_bit}
 use Rattle.lane_model.specs.declared.predicates.LogicOp.TheVariants.{And, Sel}
 use Rattle.lane_model.specs.FirstLast.{first_where}
-use Rattle.lane_model.specs.Predicate.{is_at, is_upto, first_set, last_is_set, unbroken, logic, broken, broken_pair, broken_next, with_first}
+use Rattle.lane_model.specs.Predicate.{is_at, is_upto, first_set, last_is_set, unbroken, logic, broken, broken_pair, broken_next, with_first_active}
 use Rattle.pred_bits.proofs.Bytes.{first_byte, first_set_byte, last_set_byte, each_again, all_clear}
 
 -- ---- brka, brkb
@@ -80,10 +80,10 @@ module _ (m : ℕ) (g old : List Bool) (count : length old ≡ m) (place : Optio
     | inr other ↦ get_or-set_other old k j true false other ∙ ap (λ b. b || is_set old j) (sym (elsewhere k j other))
   ]
 
-  pub first_written : (k : ℕ) → place ≡ Some k → k < m → set old k true ≡ with_first m g old
+  pub first_written : (k : ℕ) → place ≡ Some k → k < m → set old k true ≡ with_first_active m g old
   first_written k e within =
       fill_by_all (λ j. nat_eq j k || is_set old j) (set old k true) m false (length-set old k true ∙ count) (written k within)
       ∙ ap (λ (o : Option ℕ). each m (λ j. is_at o j || is_set old j)) (sym e ∙ first_bit)
 
-  pub none_written : place ≡ None → old ≡ with_first m g old
+  pub none_written : place ≡ None → old ≡ with_first_active m g old
   none_written e = each_again m old count ∙ ap (λ (o : Option ℕ). each m (λ j. is_at o j || is_set old j)) (sym e ∙ first_bit)

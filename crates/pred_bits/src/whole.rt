@@ -2,7 +2,7 @@
 ghost use Rattle.std.specs.Prelude.{◌≡◌, ◌≤◌, ◌<◌, ℕ, true, nat_lt, length, IfSome};
 ghost use Rattle.lane_model.specs.Lists.{each};
 ghost use Rattle.lane_model.specs.Predicate as model;
-ghost use Rattle.lane_model.specs.Predicate.{is_upto, broken, broken_pair, broken_next, with_first};
+ghost use Rattle.lane_model.specs.Predicate.{is_upto, broken, broken_pair, broken_next, with_first_active};
 
 use crate::lanes::{first_lane, first_set, lanes_below, last_is_set};
 use crate::{LogicOp, PredBits, pred_words};
@@ -105,7 +105,7 @@ pub fn brkn(g: &PredBits, a: &PredBits, before: &PredBits) -> PredBits
 #[inline(always)]
 pub fn first(g: &PredBits, before: &PredBits) -> PredBits
     requires { length before.now ≡ length g.now }
-    ensures { result ≡ with_first (length g.now) g.now before.now }
+    ensures { result ≡ with_first_active (length g.now) g.now before.now }
 {
     let mut bits = PredBits::of_words(before.bits, &before.words);
     if let Some(k) = first_lane(g, Esize::B) {

@@ -2,7 +2,7 @@
 use Rattle.std.proofs.Common.{◌≡◌, ℕ, zero, suc, ◌+◌, ◌-◌, Bool, true, false, not, ◌&&◌, ◌||◌, List, [], ◌++◌, Option, Some, None, is_none, is_some, if◌then◌else◌, refl, sym, ap, ◌∙◌, arith, append-nil, append_assoc}
 use Rattle.std.specs.Prelude.{OnOk, Result, Ok, Err}
 use Rattle.emu_report.proofs.Puts.{put_equal}
-use Rattle.trace_lines.specs.Lines.{IsPut}
+use Rattle.trace_lines.specs.Lines.{HasGained}
 use Rattle.emu_model.specs.declared.trap.Ended.{Ended}
 use Rattle.emu_model.specs.declared.trap.Ended.TheVariants.{Exit, Trap}
 use Rattle.emu_model.specs.State.{Parts}
@@ -16,24 +16,24 @@ use Rattle.trace_options.specs.declared.shown.Shown.{Shown}
 use Rattle.trace_options.specs.declared.window.Stage.{Stage}
 use Rattle.trace_options.specs.declared.window.Window.{Window}
 use Rattle.trace_options.specs.Windows.{behind, is_over}
-use Rattle.step_traces.specs.Traces.{goes_on, is_left, last, lines, stage_before, told}
+use Rattle.step_traces.specs.Traces.{goes_on, is_left, machine_left, lines_of_steps, stage_before, told_lines}
 
 -- ---- the equations of a trace
 
 module _ (shown : Shown) (w : Window) (stage : Stage) (m : Parts) (input : List ℕ) where
-  lines_none : lines shown w stage m input 0 ≡ []
-  unfolding lines
+  lines_none : lines_of_steps shown w stage m input 0 ≡ []
+  unfolding lines_of_steps
   lines_none = refl
 
   lines_one : (n : ℕ) → goes_on w stage m ≡ true
-      → lines shown w stage m input (suc n) ≡ told shown w (stage_before w stage m) m (step_from m input).parts (accesses m) ++ lines shown w (behind (stage_before w stage m)) (step_from m input).parts (step_from m input).input n
-  unfolding lines
-  lines_one n h = ap (λ (b : Bool). if b then told shown w (stage_before w stage m) m (step_from m input).parts (accesses m) ++ lines shown w (behind (stage_before w stage m)) (step_from m input).parts (step_from m input).input n else []) h
+      → lines_of_steps shown w stage m input (suc n) ≡ told_lines shown w (stage_before w stage m) m (step_from m input).parts (accesses m) ++ lines_of_steps shown w (behind (stage_before w stage m)) (step_from m input).parts (step_from m input).input n
+  unfolding lines_of_steps
+  lines_one n h = ap (λ (b : Bool). if b then told_lines shown w (stage_before w stage m) m (step_from m input).parts (accesses m) ++ lines_of_steps shown w (behind (stage_before w stage m)) (step_from m input).parts (step_from m input).input n else []) h
 
-  lines_over : (n : ℕ) → goes_on w stage m ≡ false → lines shown w stage m input n ≡ []
-  unfolding lines
+  lines_over : (n : ℕ) → goes_on w stage m ≡ false → lines_of_steps shown w stage m input n ≡ []
+  unfolding lines_of_steps
   lines_over zero h = refl
-  lines_over (suc n) h = ap (λ (b : Bool). if b then told shown w (stage_before w stage m) m (step_from m input).parts (accesses m) ++ lines shown w (behind (stage_before w stage m)) (step_from m input).parts (step_from m input).input n else []) h
+  lines_over (suc n) h = ap (λ (b : Bool). if b then told_lines shown w (stage_before w stage m) m (step_from m input).parts (accesses m) ++ lines_of_steps shown w (behind (stage_before w stage m)) (step_from m input).parts (step_from m input).input n else []) h
 
   left_none : is_left w stage m input 0 ≡ false
   unfolding is_left
@@ -47,32 +47,32 @@ module _ (shown : Shown) (w : Window) (stage : Stage) (m : Parts) (input : List 
   unfolding is_left
   left_over n h = ap (λ (b : Bool). if b then is_left w (behind (stage_before w stage m)) (step_from m input).parts (step_from m input).input n else is_none m.ended) h
 
-  last_none : last w stage m input 0 ≡ m
-  unfolding last
+  last_none : machine_left w stage m input 0 ≡ m
+  unfolding machine_left
   last_none = refl
 
-  last_one : (n : ℕ) → goes_on w stage m ≡ true → last w stage m input (suc n) ≡ last w (behind (stage_before w stage m)) (step_from m input).parts (step_from m input).input n
-  unfolding last
-  last_one n h = ap (λ (b : Bool). if b then last w (behind (stage_before w stage m)) (step_from m input).parts (step_from m input).input n else m) h
+  last_one : (n : ℕ) → goes_on w stage m ≡ true → machine_left w stage m input (suc n) ≡ machine_left w (behind (stage_before w stage m)) (step_from m input).parts (step_from m input).input n
+  unfolding machine_left
+  last_one n h = ap (λ (b : Bool). if b then machine_left w (behind (stage_before w stage m)) (step_from m input).parts (step_from m input).input n else m) h
 
-  last_over : (n : ℕ) → goes_on w stage m ≡ false → last w stage m input n ≡ m
-  unfolding last
+  last_over : (n : ℕ) → goes_on w stage m ≡ false → machine_left w stage m input n ≡ m
+  unfolding machine_left
   last_over zero h = refl
-  last_over (suc n) h = ap (λ (b : Bool). if b then last w (behind (stage_before w stage m)) (step_from m input).parts (step_from m input).input n else m) h
+  last_over (suc n) h = ap (λ (b : Bool). if b then machine_left w (behind (stage_before w stage m)) (step_from m input).parts (step_from m input).input n else m) h
 
 -- ---- where a trace has come to
 
 -- from the first machine so much was told, and the rest is that of the machine now
 pub record HasTold (shown : Shown) (w : Window) (first : Stage) (start : Parts) (bytes : List ℕ) (most : ℕ) (text : List ℕ) (stage : Stage) (now : Parts) (rest : List ℕ) (n : ℕ) : Type 0 where
-  pub lines : lines shown w first start bytes most ≡ text ++ lines shown w stage now rest n
+  pub lines : lines_of_steps shown w first start bytes most ≡ text ++ lines_of_steps shown w stage now rest n
   pub left : is_left w first start bytes most ≡ is_left w stage now rest n
-  pub last : last w first start bytes most ≡ last w stage now rest n
+  pub last : machine_left w first start bytes most ≡ machine_left w stage now rest n
 
 pub told_nothing : (shown : Shown) (w : Window) (first : Stage) (start : Parts) (bytes rest : List ℕ) (most : ℕ) → rest ≡ bytes → HasTold shown w first start bytes most [] first start rest most
 told_nothing shown w first start bytes rest most is = record {
-  lines = ap (λ (i : List ℕ). lines shown w first start i most) (sym is);
+  lines = ap (λ (i : List ℕ). lines_of_steps shown w first start i most) (sym is);
   left = ap (λ (i : List ℕ). is_left w first start i most) (sym is);
-  last = ap (λ (i : List ℕ). last w first start i most) (sym is);
+  last = ap (λ (i : List ℕ). machine_left w first start i most) (sym is);
 }
 
 pub going_on : (w : Window) (stage : Stage) (m : Parts) → is_none m.ended ≡ true → is_over (stage_before w stage m) ≡ false → goes_on w stage m ≡ true
@@ -88,24 +88,24 @@ module _ (shown : Shown) (w : Window) (first : Stage) (start : Parts) (bytes : L
     (has : HasTold shown w first start bytes most text stage now rest n) where
   -- a step more
   pub told_more : (k : ℕ) → n ≡ suc k → goes_on w stage now ≡ true → (q : Parts) (left : List ℕ) → q ≡ (step_from now rest).parts → left ≡ (step_from now rest).input
-      → HasTold shown w first start bytes most (text ++ told shown w (stage_before w stage now) now (step_from now rest).parts (accesses now)) (behind (stage_before w stage now)) q left k
+      → HasTold shown w first start bytes most (text ++ told_lines shown w (stage_before w stage now) now (step_from now rest).parts (accesses now)) (behind (stage_before w stage now)) q left k
   told_more k is going q left parts input = rw parts (rw input (record {
-    lines = has.lines ∙ ap (λ (j : ℕ). text ++ lines shown w stage now rest j) is ∙ ap (λ (xs : List ℕ). text ++ xs) (lines_one shown w stage now rest k going)
-        ∙ sym (append_assoc text (told shown w (stage_before w stage now) now (step_from now rest).parts (accesses now)) (lines shown w (behind (stage_before w stage now)) (step_from now rest).parts (step_from now rest).input k));
+    lines = has.lines ∙ ap (λ (j : ℕ). text ++ lines_of_steps shown w stage now rest j) is ∙ ap (λ (xs : List ℕ). text ++ xs) (lines_one shown w stage now rest k going)
+        ∙ sym (append_assoc text (told_lines shown w (stage_before w stage now) now (step_from now rest).parts (accesses now)) (lines_of_steps shown w (behind (stage_before w stage now)) (step_from now rest).parts (step_from now rest).input k));
     left = has.left ∙ ap (λ (j : ℕ). is_left w stage now rest j) is ∙ left_one shown w stage now rest k going;
-    last = has.last ∙ ap (λ (j : ℕ). last w stage now rest j) is ∙ last_one shown w stage now rest k going;
+    last = has.last ∙ ap (λ (j : ℕ). machine_left w stage now rest j) is ∙ last_one shown w stage now rest k going;
   }))
 
   pub told_next : (here later : Stage) (k : ℕ) → here ≡ stage_before w stage now → later ≡ behind here → n ≡ suc k → goes_on w stage now ≡ true → (q : Parts) (left : List ℕ)
       → q ≡ (step_from now rest).parts → left ≡ (step_from now rest).input
-      → HasTold shown w first start bytes most (text ++ told shown w here now (step_from now rest).parts (accesses now)) later q left k
+      → HasTold shown w first start bytes most (text ++ told_lines shown w here now (step_from now rest).parts (accesses now)) later q left k
   told_next here later k at next is going q left parts input = rw next (rw at (told_more k is going q left parts input))
 
   -- the budget is spent, or the trace has ended
-  pub told_all : n ≡ 0 → lines shown w first start bytes most ≡ text
-  told_all is = has.lines ∙ ap (λ (j : ℕ). text ++ lines shown w stage now rest j) is ∙ ap (λ (xs : List ℕ). text ++ xs) (lines_none shown w stage now rest) ∙ append-nil text
+  pub told_all : n ≡ 0 → lines_of_steps shown w first start bytes most ≡ text
+  told_all is = has.lines ∙ ap (λ (j : ℕ). text ++ lines_of_steps shown w stage now rest j) is ∙ ap (λ (xs : List ℕ). text ++ xs) (lines_none shown w stage now rest) ∙ append-nil text
 
-  pub told_over : goes_on w stage now ≡ false → lines shown w first start bytes most ≡ text
+  pub told_over : goes_on w stage now ≡ false → lines_of_steps shown w first start bytes most ≡ text
   told_over over = has.lines ∙ ap (λ (xs : List ℕ). text ++ xs) (lines_over shown w stage now rest n over) ∙ append-nil text
 
   pub left_all : n ≡ 0 → false ≡ is_left w first start bytes most
@@ -121,10 +121,10 @@ module _ (shown : Shown) (w : Window) (first : Stage) (start : Parts) (bytes : L
       by_steps zero = left_none shown w stage now rest
       by_steps (suc j) = left_over shown w stage now rest j (ended_over w stage now over) ∙ over
 
-  pub last_all : n ≡ 0 → now ≡ last w first start bytes most
-  last_all is = sym (has.last ∙ ap (λ (j : ℕ). last w stage now rest j) is ∙ last_none shown w stage now rest)
+  pub last_all : n ≡ 0 → now ≡ machine_left w first start bytes most
+  last_all is = sym (has.last ∙ ap (λ (j : ℕ). machine_left w stage now rest j) is ∙ last_none shown w stage now rest)
 
-  pub last_ended : goes_on w stage now ≡ false → now ≡ last w first start bytes most
+  pub last_ended : goes_on w stage now ≡ false → now ≡ machine_left w first start bytes most
   last_ended over = sym (has.last ∙ last_over shown w stage now rest n over)
 
 -- ---- how a step ended
@@ -180,6 +180,6 @@ some_is a b h = cc
 
 -- ---- what was put, where the answer is Ok
 
-pub ok_equal : {T E : Type 0} (old new : Option (List ℕ)) (xs ys : List ℕ) (r : Result T E) → xs ≡ ys → OnOk r (IsPut old new xs) → OnOk r (IsPut old new ys)
+pub ok_equal : {T E : Type 0} (old new : Option (List ℕ)) (xs ys : List ℕ) (r : Result T E) → xs ≡ ys → OnOk r (HasGained old new xs) → OnOk r (HasGained old new ys)
 ok_equal old new xs ys (Ok v) e h = put_equal old new xs ys e h
 ok_equal old new xs ys (Err f) e h = tt

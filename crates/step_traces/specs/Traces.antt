@@ -9,8 +9,8 @@ use Rattle.trace_options.specs.declared.shown.Shown.{Shown}
 use Rattle.trace_options.specs.declared.window.Stage.{Stage}
 use Rattle.trace_options.specs.declared.window.Stage.TheVariants.{Waiting, Telling, Over}
 use Rattle.trace_options.specs.declared.window.Window.{Window}
-use Rattle.trace_options.specs.Windows.{behind, first_stage, is_over, is_within, stage_at}
-use Rattle.trace_lines.specs.Lines.{step_line}
+use Rattle.trace_options.specs.Windows.{behind, first_stage, is_over, is_in_range, stage_at}
+use Rattle.trace_lines.specs.Lines.{traced_line}
 
 -- ---- how far a trace has come
 
@@ -21,29 +21,29 @@ stage_before w stage m = stage_at w stage m.steps m.core.pc
 
 -- a step in the range is told; one that wasn't counted, as it trapped, isn't
 abbrev pub is_told : Window → Parts → Parts → Bool
-is_told w old new = is_within w.within old.core.pc && nat_lt old.steps new.steps
+is_told w old new = is_in_range w.within old.core.pc && nat_lt old.steps new.steps
 
 abbrev pub told_line : Shown → Window → Parts → Parts → List Access → List ℕ
-told_line shown w old new touched = if is_told w old new then step_line shown old new touched else []
+told_line shown w old new touched = if is_told w old new then traced_line shown old new touched else []
 
--- where the trace tells steps
-abbrev pub told : Shown → Window → Stage → Parts → Parts → List Access → List ℕ
-told shown w (Waiting calls) old new touched = []
-told shown w (Telling left) old new touched = told_line shown w old new touched
-told shown w Over old new touched = []
+-- the line of a step, where the trace tells steps
+abbrev pub told_lines : Shown → Window → Stage → Parts → Parts → List Access → List ℕ
+told_lines shown w (Waiting calls) old new touched = []
+told_lines shown w (Telling left) old new touched = told_line shown w old new touched
+told_lines shown w Over old new touched = []
 
--- a step is taken
+-- one more step is taken: the machine hasn't ended, and the trace isn't over
 abbrev pub goes_on : Window → Stage → Parts → Bool
 goes_on w stage m = is_none m.ended && not (is_over (stage_before w stage m))
 
 -- the lines of at most so many steps of a machine with this input, which stops at its end: each is that of the machine
 -- before the step, of what the step makes of it, and of the accesses of the step
-unfoldable pub lines : Shown → Window → Stage → Parts → List ℕ → ℕ → List ℕ
-lines shown w stage m input zero = []
-lines shown w stage m input (suc n) =
+unfoldable pub lines_of_steps : Shown → Window → Stage → Parts → List ℕ → ℕ → List ℕ
+lines_of_steps shown w stage m input zero = []
+lines_of_steps shown w stage m input (suc n) =
     if goes_on w stage m
-    then told shown w (stage_before w stage m) m (step_from m input).parts (accesses m)
-    ++ lines shown w (behind (stage_before w stage m)) (step_from m input).parts (step_from m input).input n
+    then told_lines shown w (stage_before w stage m) m (step_from m input).parts (accesses m)
+    ++ lines_of_steps shown w (behind (stage_before w stage m)) (step_from m input).parts (step_from m input).input n
     else []
 
 -- the trace ended before the machine did, and within so many steps
@@ -54,12 +54,12 @@ is_left w stage m input (suc n) =
     then is_left w (behind (stage_before w stage m)) (step_from m input).parts (step_from m input).input n
     else is_none m.ended
 
--- where it ended
-unfoldable pub last : Window → Stage → Parts → List ℕ → ℕ → Parts
-last w stage m input zero = m
-last w stage m input (suc n) =
+-- the machine where the trace ended
+unfoldable pub machine_left : Window → Stage → Parts → List ℕ → ℕ → Parts
+machine_left w stage m input zero = m
+machine_left w stage m input (suc n) =
     if goes_on w stage m
-    then last w (behind (stage_before w stage m)) (step_from m input).parts (step_from m input).input n
+    then machine_left w (behind (stage_before w stage m)) (step_from m input).parts (step_from m input).input n
     else m
 
 -- ---- the whole text
@@ -71,6 +71,6 @@ closing_line left m = if left then stopped_line m.steps m.core.pc else ending_li
 -- of a run with a budget of steps
 abbrev pub trace_text : Shown → Window → Parts → List ℕ → ℕ → List ℕ
 trace_text shown w m input budget =
-    lines shown w (first_stage w) m input (budget - m.steps)
+    lines_of_steps shown w (first_stage w) m input (budget - m.steps)
     ++ closing_line (is_left w (first_stage w) m input (budget - m.steps))
-    (last w (first_stage w) m input (budget - m.steps))
+    (machine_left w (first_stage w) m input (budget - m.steps))

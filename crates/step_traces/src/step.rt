@@ -7,9 +7,9 @@ ghost use Rattle.trace_lines.specs.Lines.{
   access_texts,
   head_text,
   scalar_changes,
-  step_line,
+  traced_line,
   vector_changes,
-  IsPut,
+  HasGained,
 };
 
 use emu_machine::Machine;
@@ -34,7 +34,7 @@ fn put_core<S: Sink>(
     new: &Machine,
     sink: &mut S,
 ) -> Result<(), Failed>
-    ensures bytes { OnOk result (IsPut (S.held sink.old) (S.held sink.new)
+    ensures bytes { OnOk result (HasGained (S.held sink.old) (S.held sink.new)
         (scalar_changes shown.now old.now.parts.core new.now.parts.core)) }
     ensures cause { HasCause (S.faults sink.old) (S.faults sink.new) result }
 {
@@ -43,7 +43,7 @@ fn put_core<S: Sink>(
 
 /// Puts the vector length and the vector registers that differ between two machines.
 fn put_vec<S: Sink>(shown: &Shown, old: &Machine, new: &Machine, sink: &mut S) -> Result<(), Failed>
-    ensures bytes { OnOk result (IsPut (S.held sink.old) (S.held sink.new)
+    ensures bytes { OnOk result (HasGained (S.held sink.old) (S.held sink.new)
         (vector_changes shown.now old.now.parts.vectors new.now.parts.vectors)) }
     ensures cause { HasCause (S.faults sink.old) (S.faults sink.new) result }
 {
@@ -57,7 +57,7 @@ fn put_touched<S: Sink>(
     new: &Machine,
     sink: &mut S,
 ) -> Result<(), Failed>
-    ensures bytes { OnOk result (IsPut (S.held sink.old) (S.held sink.new) (if told
+    ensures bytes { OnOk result (HasGained (S.held sink.old) (S.held sink.new) (if told
         then access_texts old.now.parts.memory new.now.parts.memory new.now.accesses else [])) }
     ensures cause { HasCause (S.faults sink.old) (S.faults sink.new) result }
 {
@@ -71,7 +71,7 @@ fn put_changes<S: Sink>(
     new: &Machine,
     sink: &mut S,
 ) -> Result<(), Failed>
-    ensures bytes { OnOk result (IsPut (S.held sink.old) (S.held sink.new)
+    ensures bytes { OnOk result (HasGained (S.held sink.old) (S.held sink.new)
         ((scalar_changes shown.now old.now.parts.core new.now.parts.core
         ++ vector_changes shown.now old.now.parts.vectors new.now.parts.vectors)
         ++ (if shown.now.memory then access_texts old.now.parts.memory new.now.parts.memory new.now.accesses
@@ -91,8 +91,8 @@ pub fn put_step_line<S: Sink>(
     new: &Machine,
     sink: &mut S,
 ) -> Result<(), Failed>
-    ensures bytes { OnOk result (IsPut (S.held sink.old) (S.held sink.new)
-        (step_line shown.now old.now.parts new.now.parts new.now.accesses)) }
+    ensures bytes { OnOk result (HasGained (S.held sink.old) (S.held sink.new)
+        (traced_line shown.now old.now.parts new.now.parts new.now.accesses)) }
     ensures cause { HasCause (S.faults sink.old) (S.faults sink.new) result }
 {
     put_place(old, sink)?;

@@ -4,15 +4,15 @@ ghost use Rattle.io_gate.specs.Streams.{HasCause};
 ghost use Rattle.emu_run.specs.Step as model;
 ghost use Rattle.emu_machine.specs.Ends.{step_end};
 ghost use Rattle.emu_machine.specs.Machines.{has_ended};
-ghost use Rattle.trace_lines.specs.Lines.{IsPut};
+ghost use Rattle.trace_lines.specs.Lines.{HasGained};
 ghost use Rattle.trace_options.specs.Windows.{first_stage};
-ghost use Rattle.step_traces.specs.Traces.{lines, last, is_left, is_told, stage_before, told, told_line};
+ghost use Rattle.step_traces.specs.Traces.{lines_of_steps, machine_left, is_left, is_told, stage_before, told_lines, told_line};
 
 use crate::discard::Discard;
 use crate::step::put_step_line;
 use emu_machine::{Machine, StepEnd};
 use io_gate::{Failed, Sink, SliceSource};
-use trace_options::{Shown, Stage, Window, behind, is_over, is_within, stage_at};
+use trace_options::{Shown, Stage, Window, behind, is_in_range, is_over, stage_at};
 
 /// Takes one step over an input that never fails. What the program writes is dropped.
 fn take_step(machine: &mut Machine, source: &mut SliceSource) -> StepEnd
@@ -36,7 +36,7 @@ fn take_step(machine: &mut Machine, source: &mut SliceSource) -> StepEnd
 fn is_told(window: &Window, old: &Machine, new: &Machine) -> bool
     ensures { result ≡ is_told window.now old.now.parts new.now.parts }
 {
-    is_within(window.within, old.core().pc()) && old.steps() < new.steps()
+    is_in_range(window.within, old.core().pc()) && old.steps() < new.steps()
 }
 
 /// Puts the line of the step between two machines, where it is told.
@@ -47,7 +47,7 @@ fn put_told<S: Sink>(
     new: &Machine,
     sink: &mut S,
 ) -> Result<(), Failed>
-    ensures bytes { OnOk result (IsPut (S.held sink.old) (S.held sink.new)
+    ensures bytes { OnOk result (HasGained (S.held sink.old) (S.held sink.new)
         (told_line shown.now window.now old.now.parts new.now.parts new.now.accesses)) }
     ensures cause { HasCause (S.faults sink.old) (S.faults sink.new) result }
 {
@@ -67,8 +67,8 @@ fn put_at<S: Sink>(
     new: &Machine,
     sink: &mut S,
 ) -> Result<(), Failed>
-    ensures bytes { OnOk result (IsPut (S.held sink.old) (S.held sink.new)
-        (told shown.now window.now stage old.now.parts new.now.parts new.now.accesses)) }
+    ensures bytes { OnOk result (HasGained (S.held sink.old) (S.held sink.new)
+        (told_lines shown.now window.now stage old.now.parts new.now.parts new.now.accesses)) }
     ensures cause { HasCause (S.faults sink.old) (S.faults sink.new) result }
 {
     match stage {
@@ -102,7 +102,7 @@ fn take_both<S: Sink>(
     requires room { machine.old.parts.steps < 2 ^ 64 - 1 }
     requires same { ahead.old.parts ≡ machine.old.parts }
     requires rest { drop source_ahead.old.place source_ahead.old.bytes ≡ drop source.old.place source.old.bytes }
-    ensures bytes { OnOk result (IsPut (S.held sink.old) (S.held sink.new) (told shown.now window.now stage
+    ensures bytes { OnOk result (HasGained (S.held sink.old) (S.held sink.new) (told_lines shown.now window.now stage
         machine.old.parts (model.step_from machine.old.parts (drop source.old.place source.old.bytes)).parts
         (model.accesses machine.old.parts))) }
     ensures parts { OnOk result (machine.new.parts
@@ -139,12 +139,12 @@ pub fn trace<S: Sink>(
     requires going { has_ended machine.old ≡ false }
     requires whole { has_ended ahead.old ≡ false }
     requires same { ahead.old.parts ≡ machine.old.parts }
-    ensures bytes { OnOk result (IsPut (S.held sink.old) (S.held sink.new)
-        (lines shown.now window.now (first_stage window.now)
+    ensures bytes { OnOk result (HasGained (S.held sink.old) (S.held sink.new)
+        (lines_of_steps shown.now window.now (first_stage window.now)
         machine.old.parts input.now (budget - machine.old.parts.steps))) }
     ensures left { IfOk result (λ left. left ≡ is_left window.now (first_stage window.now)
         machine.old.parts input.now (budget - machine.old.parts.steps)) }
-    ensures parts { OnOk result (machine.new.parts ≡ last window.now (first_stage window.now)
+    ensures parts { OnOk result (machine.new.parts ≡ machine_left window.now (first_stage window.now)
         machine.old.parts input.now (budget - machine.old.parts.steps)) }
     ensures cause { HasCause (S.faults sink.old) (S.faults sink.new) result }
 {

@@ -23,7 +23,7 @@ fn copied<L: Local + Chunks<u8, 16> + Chunks<u16, 8> + Chunks<u32, 4> + Chunks<u
     lanes: L,
 )
     requires { IsLaneSize e }
-    ensures { vec.new ≡ table.copied merges e pg (L.Gives.value lanes e vec.old) zd vec.old }
+    ensures { vec.new ≡ table.merging_or_zeroing merges e pg (L.Gives.value lanes e vec.old) zd vec.old }
 {
     if merges {
         merging(vec, e, pg, zd, lanes);

@@ -9,7 +9,7 @@ use Rattle.emu_model.specs.State.{Core, Vectors}
 use Rattle.sve_effects.specs.declared.groups.Group.{Group}
 use Rattle.sve_effects.specs.declared.groups.Group.TheVariants.{Lanes, Permutes, Counts, Folds, Predicates, Loads, Stores, Gathers, Scatters, FirstFaults}
 use Rattle.sve_effects.specs.FirstFault.{first_fault_row}
-use Rattle.sve_effects.specs.Row.{Row, by_lanes, by_registers, memory}
+use Rattle.sve_effects.specs.VectorRow.{VectorRow, by_lanes, by_registers, memory}
 use Rattle.sve_effects.specs.Rows.{row}
 use Rattle.sve_effects.specs.VectorElements.{MemoryRow, Layout, elements_of, row_layout, loads, whole_lengths, whole_z, scalar, single_bytes}
 use Rattle.sve_effects.specs.VectorLoadStore.{load_row, store_row}
@@ -28,13 +28,13 @@ no_elements = record {
 }
 
 -- the registers after a row that reaches no memory
-abbrev pub registers_after : Row → Core → Vectors → Registers
+abbrev pub registers_after : VectorRow → Core → Vectors → Registers
 registers_after (by_lanes f) c v = leaves c (f c v)
 registers_after (by_registers f) c v = f c v
 registers_after (memory r) c v = leaves c v
 
 -- the elements of a row that reaches memory
-abbrev pub memory_of : Row → MemoryRow
+abbrev pub memory_of : VectorRow → MemoryRow
 memory_of (by_lanes f) = no_elements
 memory_of (by_registers f) = no_elements
 memory_of (memory r) = r

@@ -6,7 +6,7 @@ use Rattle.emu_model.specs.State.{Vectors}
 use Rattle.emu_model.specs.Active.{active}
 use Rattle.emu_model.specs.Lanes.{lane, read_z, read_p, with_lanes}
 
--- the bits of the lanes of a size: 0 b, 1 h, 2 s, 3 d
+-- the bits of the lanes of a size: 0 b, 1 h, 2 s, 3 d, and 4 q
 abbrev pub lane_bits : ℕ → ℕ
 lane_bits size = 8 * 2 ^ size
 

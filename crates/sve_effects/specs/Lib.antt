@@ -13,7 +13,7 @@ pub mod FirstFaultParts
 pub mod Fold
 pub mod PermuteRows
 pub mod PredicateRows
-pub mod Row
+pub mod VectorRow
 pub mod Rows
 pub mod SoundEffects
 pub mod SoundRows

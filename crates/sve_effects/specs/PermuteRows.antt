@@ -51,14 +51,14 @@ with_p_places e place pn pm pd v =
 -- ---- names
 
 -- the scalar of insr: a general register, where 31 is 0, or the low lane of a vector register
-abbrev pub insert_scalar : InsertOp → ℕ → ℕ → Core → Vectors → ℕ
-insert_scalar InsrR e src c v = read_x c src
-insert_scalar InsrV e src c v = lane_of e v src 0
+abbrev pub inserted_scalar : InsertOp → ℕ → ℕ → Core → Vectors → ℕ
+inserted_scalar InsrR e src c v = read_x c src
+inserted_scalar InsrV e src c v = lane_of e v src 0
 
 -- the scalar of cpy: a general register, where 31 is SP, or the low lane of a vector register
-abbrev pub copy_scalar : CopyRegOp → ℕ → ℕ → Core → Vectors → ℕ
-copy_scalar CpyR e rn c v = read_x_sp c rn
-copy_scalar CpyV e rn c v = lane_of e v rn 0
+abbrev pub copied_scalar : CopyRegOp → ℕ → ℕ → Core → Vectors → ℕ
+copied_scalar CpyR e rn c v = read_x_sp c rn
+copied_scalar CpyV e rn c v = lane_of e v rn 0
 
 -- whether a name is of the high half, as those with hi are, and whether its lanes are signed, as those with s are
 abbrev pub unpacks : UnpackOp → Bool × Bool

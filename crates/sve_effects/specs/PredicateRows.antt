@@ -66,7 +66,7 @@ after_test sets e n g result c = if sets then record c { flags = pred_test e n g
 abbrev pub with_result : Bool → ℕ → List Bool → ℕ → List Bool → Core → Vectors → Registers
 with_result sets e g pd result c v = leaves (after_test sets e (predicate_bits v) g result c) (with_p v pd result)
 
--- the same, where they are set
+-- the same, and the flags are set
 abbrev pub with_result_and_flags : ℕ → List Bool → ℕ → List Bool → Core → Vectors → Registers
 with_result_and_flags e g pd result c v = with_result true e g pd result c v
 

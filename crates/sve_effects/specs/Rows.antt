@@ -20,12 +20,12 @@ use Rattle.sve_effects.specs.LaneLoop.{lane_bits, lane_of, covering_lane, is_act
 use Rattle.sve_effects.specs.Fold.{reduced}
 use Rattle.lane_model.specs.Pattern.{pattern_count}
 use Rattle.lane_model.specs.Permute.{ext_place, rev_place, insr_place, indexed_place, copy_place, compact_place, splice_place}
-use Rattle.sve_effects.specs.PermuteRows.{interleave_place, lanes, with_places, with_p_places, insert_scalar, copy_scalar, dup_bits, dup_index, after_last, after_cond_last, after_unpack, after_unpack_p}
-use Rattle.lane_model.specs.Predicate.{logic, broken, broken_pair, broken_next, with_first, only_next, lanes_below, count_lanes}
+use Rattle.sve_effects.specs.PermuteRows.{interleave_place, lanes, with_places, with_p_places, inserted_scalar, copied_scalar, dup_bits, dup_index, after_last, after_cond_last, after_unpack, after_unpack_p}
+use Rattle.lane_model.specs.Predicate.{logic, broken, broken_pair, broken_next, with_first_active, only_next, lanes_below, count_lanes}
 use Rattle.sve_effects.specs.PredicateRows.{predicate_bits, ones, after_test, with_result, with_result_and_flags, with_compared, vector_test, wide_test, unsigned_test, signed_test, is_unsigned, logic_of, break_after, pair_after, ptrue_flags, read_ffr_flags, written_ffr, counted_by, set_lanes_of, while_result, terminates, termination_flags}
-use Rattle.sve_effects.specs.Row.{Row, by_lanes, by_registers, memory, done_by}
-use Rattle.sve_effects.specs.VectorData.{tsz_of, shift_bits, shifted_by, wide_unsigned, wide_signed, index_start, index_step, dot_of, dot_indexed_lanes, copied}
-use Rattle.sve_effects.specs.VectorElements.{Brackets, loads, stores, first_faults, non_faults, gathering, each_active, each_repeated, replicated, whole_z, whole_p, scalar, vector, lengths, quadwords, by_register, single, whole_lengths, words, doublewords, load_registers, store_registers, by_dtype, full_width, single_bytes, extending, part_of, MemoryRow, Offset, LaneChoice, Way, Width}
+use Rattle.sve_effects.specs.VectorRow.{VectorRow, by_lanes, by_registers, memory, performed_by}
+use Rattle.sve_effects.specs.VectorData.{tsz_of, shift_bits, shifted_by, wide_unsigned, wide_signed, index_start, index_step, dot_of, dot_indexed_lanes, merging_or_zeroing}
+use Rattle.sve_effects.specs.VectorElements.{Brackets, loads, stores, first_faults, non_faults, gathering, each_active, each_repeated, replicated, whole_z, whole_p, scalar, vector, lengths, quadwords, by_register, single, whole_lengths, by_words, by_doublewords, load_registers, store_registers, by_dtype, full_width, single_bytes, extending, low_part, MemoryRow, Offset, LaneChoice, Way, Width}
 
 -- ---- loads and stores
 
@@ -44,7 +44,7 @@ one_register way width first choice brackets = record {
 abbrev pub from_base : Way → Width → ℕ → ℕ → ℕ → Offset → MemoryRow
 from_base way width zt pg rn offset = one_register way width zt (each_active pg) (scalar rn offset)
 
--- the same at a lane of Zn and imm5 elements on
+-- the same, imm5 elements behind the address in the lane of Zn
 abbrev pub from_vector : Way → Width → ℕ → ℕ → ℕ → ℕ → MemoryRow
 from_vector way width zt pg zn imm5 = one_register way width zt (each_active pg) (vector zn imm5)
 
@@ -55,26 +55,26 @@ whole_register way first choice rn imm9 = one_register way single_bytes first ch
 -- ---- lanes and bits of predicates
 
 -- lanes of e bits, of the size that a field tells; z r k is lane k of register r
-abbrev pub lanewise : ℕ → (ℕ → (ℕ → ℕ → ℕ) → Core → Vectors → Vectors) → Row
+abbrev pub lanewise : ℕ → (ℕ → (ℕ → ℕ → ℕ) → Core → Vectors → Vectors) → VectorRow
 lanewise size f = by_lanes (λ c v. f (lane_bits size) (lane_of (lane_bits size) v) c v)
 
 -- what vector registers or predicates become, of lanes or fields for lanes of that size
-abbrev pub moves : ℕ → (ℕ → Core → Vectors → Vectors) → Row
+abbrev pub moves : ℕ → (ℕ → Core → Vectors → Vectors) → VectorRow
 moves size f = by_registers (λ c v. leaves c (f (lane_bits size) c v))
 
 -- a predicate of the active lanes of that size whose test holds, and the flags; z r k is lane k of register r
-abbrev pub compares : ℕ → ℕ → ℕ → (ℕ → (ℕ → ℕ → ℕ) → Vectors → ℕ → Bool) → Row
+abbrev pub compares : ℕ → ℕ → ℕ → (ℕ → (ℕ → ℕ → ℕ) → Vectors → ℕ → Bool) → VectorRow
 compares size pg pd test = by_registers (λ c v.
     with_compared (lane_bits size) pg pd (test (lane_bits size) (lane_of (lane_bits size) v) v) c v)
 
 -- the n bits of a predicate that is made bit by bit of others; p r is predicate r
-abbrev pub bitwise : Bool → ℕ → ℕ → (ℕ → (ℕ → List Bool) → List Bool) → Row
+abbrev pub bitwise : Bool → ℕ → ℕ → (ℕ → (ℕ → List Bool) → List Bool) → VectorRow
 bitwise sets pg pd f = by_registers (λ c v. with_result sets 8 (read_p v pg) pd (f (predicate_bits v) (read_p v)) c v)
 
 -- ---- the rows
 
 -- The values of all operands are those before the instruction.
-abbrev pub row : SveForm → Row
+abbrev pub row : SveForm → VectorRow
 row (Binary op size pg zm zdn) = lanewise size (λ e z c v.
     merging e pg (λ k. binary_lane op e (z zdn k) (z zm k)) zdn v)
 row (BinaryWide op size pg zm zdn) = lanewise size (λ e z c v.
@@ -109,8 +109,8 @@ row (DupImm size sh imm8 zd) = lanewise size (λ e z c v. every_lane e (λ k. wi
 row (BitmaskZ op n immr imms zdn) = by_lanes (λ c v.
     every_lane 64 (λ k. bitmask_lane_op op (lane_of 64 v zdn k) (unwrap_or (bitmask_of 64 (bit n) immr imms) 0)) zdn v)
 row (CopyImm size pg merges sh imm8 zd) = lanewise size (λ e z c v.
-    copied merges e pg (λ k. wide_signed e sh imm8) zd v)
-row (PrefixP size merges pg zn zd) = lanewise size (λ e z c v. copied merges e pg (z zn) zd v)
+    merging_or_zeroing merges e pg (λ k. wide_signed e sh imm8) zd v)
+row (PrefixP size merges pg zn zd) = lanewise size (λ e z c v. merging_or_zeroing merges e pg (z zn) zd v)
 row (Prefix zn zd) = by_lanes (λ c v. every_lane 64 (lane_of 64 v zn) zd v)
 row (SelectZ size zm pg zn zd) = lanewise size (λ e z c v.
     every_lane e (λ k. if is_active e v pg k then z zn k else z zm k) zd v)
@@ -133,7 +133,8 @@ row (ReadLength imm6 rd) = by_registers (λ c v.
 row (DupReg size rn zd) = moves size (λ e c v. with_places e (λ k. Scalar) zd zd (read_x_sp c rn) zd v)
 row (DupLane imm2 tsz zn zd) = by_registers (λ c v.
     let e = dup_bits tsz in leaves c (with_places e (λ k. indexed_place (dup_index imm2 tsz) (lanes e v)) zn zn 0 zd v))
-row (Insert op size src zdn) = moves size (λ e c v. with_places e insr_place zdn zdn (insert_scalar op e src c v) zdn v)
+row (Insert op size src zdn) =
+    moves size (λ e c v. with_places e insr_place zdn zdn (inserted_scalar op e src c v) zdn v)
 row (RevZ size zn zd) = moves size (λ e c v. with_places e (rev_place (lanes e v)) zn zn 0 zd v)
 row (Unpack op size zn zd) = moves size (λ e c v. after_unpack op e zn zd v)
 row (Table size zm zn zd) = moves size (λ e c v.
@@ -149,7 +150,7 @@ row (Splice size pg zm zdn) = moves size (λ e c v.
 row (Ext imm8h imm8l zm zdn) = by_registers (λ c v.
     leaves c (with_places 8 (ext_place (imm8h * 8 + imm8l) (lanes 8 v)) zdn zm 0 zdn v))
 row (CopyReg op size pg rn zd) = moves size (λ e c v.
-    with_places e (copy_place (is_active e v pg)) zd zd (copy_scalar op e rn c v) zd v)
+    with_places e (copy_place (is_active e v pg)) zd zd (copied_scalar op e rn c v) zd v)
 row (Last op size pg zn rd) = by_registers (λ c v. after_last op (lane_bits size) pg zn rd c v)
 row (CondLast op size pg zm zdn) = by_registers (λ c v. after_cond_last op (lane_bits size) pg zm zdn c v)
 row (CmpVec op size zm pg zn pd) = compares size pg pd (λ e z v k. lane_test (vector_test op) e (z zn k) (z zm k))
@@ -167,7 +168,7 @@ row (BreakNext s pg pn pdm) = by_registers (λ c v.
     let n = predicate_bits v in
     with_result s 8 (ones n) pdm (broken_next n (read_p v pg) (read_p v pn) (read_p v pdm)) c v)
 row (Ptest pg pn) = by_registers (λ c v. leaves (after_test true 8 (predicate_bits v) (read_p v pg) (read_p v pn) c) v)
-row (First pg pdn) = bitwise true pg pdn (λ n p. with_first n (p pg) (p pdn))
+row (First pg pdn) = bitwise true pg pdn (λ n p. with_first_active n (p pg) (p pdn))
 row (Next size pg pdn) = by_registers (λ c v.
     let e = lane_bits size in
     with_result_and_flags e (read_p v pg) pdn (only_next e (predicate_bits v) (read_p v pg) (read_p v pdn)) c v)
@@ -209,8 +210,10 @@ row (LoadOne dtypeh imm6 dtypel pg rn zt) =
     { choice = replicated pg })
 row (LoadZ imm9h imm9l rn zt) = memory (whole_register loads zt whole_z rn (imm9h * 8 + imm9l))
 row (LoadP imm9h imm9l rn pt) = memory (whole_register loads pt whole_p rn (imm9h * 8 + imm9l))
-row (StoreImm msz size imm4 pg rn zt) = memory (from_base stores (part_of (lane_bits size) msz) zt pg rn (lengths imm4))
-row (StoreReg msz size rm pg rn zt) = memory (from_base stores (part_of (lane_bits size) msz) zt pg rn (by_register rm))
+row (StoreImm msz size imm4 pg rn zt) =
+    memory (from_base stores (low_part (lane_bits size) msz) zt pg rn (lengths imm4))
+row (StoreReg msz size rm pg rn zt) =
+    memory (from_base stores (low_part (lane_bits size) msz) zt pg rn (by_register rm))
 row (StoreNtImm msz imm4 pg rn zt) = memory (from_base stores (full_width msz) zt pg rn (lengths imm4))
 row (StoreNtReg msz rm pg rn zt) = memory (from_base stores (full_width msz) zt pg rn (by_register rm))
 row (StoreManyImm op msz imm4 pg rn zt) =
@@ -219,26 +222,29 @@ row (StoreManyReg op msz rm pg rn zt) =
     memory (record (from_base stores (full_width msz) zt pg rn (by_register rm)) { registers = store_registers op })
 row (StoreZ imm9h imm9l rn zt) = memory (whole_register stores zt whole_z rn (imm9h * 8 + imm9l))
 row (StoreP imm9h imm9l rn pt) = memory (whole_register stores pt whole_p rn (imm9h * 8 + imm9l))
-row (GatherSx msz xs zm u ff pg rn zt) = memory (from_base (gathering ff) (extending 32 msz u) zt pg rn (words xs zm 0))
+row (GatherSx msz xs zm u ff pg rn zt) =
+    memory (from_base (gathering ff) (extending 32 msz u) zt pg rn (by_words xs zm 0))
 row (GatherSxScaled msz xs zm u ff pg rn zt) =
-    memory (from_base (gathering ff) (extending 32 msz u) zt pg rn (words xs zm msz))
-row (GatherDx msz xs zm u ff pg rn zt) = memory (from_base (gathering ff) (extending 64 msz u) zt pg rn (words xs zm 0))
+    memory (from_base (gathering ff) (extending 32 msz u) zt pg rn (by_words xs zm msz))
+row (GatherDx msz xs zm u ff pg rn zt) =
+    memory (from_base (gathering ff) (extending 64 msz u) zt pg rn (by_words xs zm 0))
 row (GatherDxScaled msz xs zm u ff pg rn zt) =
-    memory (from_base (gathering ff) (extending 64 msz u) zt pg rn (words xs zm msz))
-row (GatherD msz zm u ff pg rn zt) = memory (from_base (gathering ff) (extending 64 msz u) zt pg rn (doublewords zm 0))
+    memory (from_base (gathering ff) (extending 64 msz u) zt pg rn (by_words xs zm msz))
+row (GatherD msz zm u ff pg rn zt) =
+    memory (from_base (gathering ff) (extending 64 msz u) zt pg rn (by_doublewords zm 0))
 row (GatherDScaled msz zm u ff pg rn zt) =
-    memory (from_base (gathering ff) (extending 64 msz u) zt pg rn (doublewords zm msz))
+    memory (from_base (gathering ff) (extending 64 msz u) zt pg rn (by_doublewords zm msz))
 row (GatherSv msz imm5 u ff pg zn zt) = memory (from_vector (gathering ff) (extending 32 msz u) zt pg zn imm5)
 row (GatherDv msz imm5 u ff pg zn zt) = memory (from_vector (gathering ff) (extending 64 msz u) zt pg zn imm5)
-row (ScatterSx msz zm xs pg rn zt) = memory (from_base stores (part_of 32 msz) zt pg rn (words xs zm 0))
-row (ScatterSxScaled msz zm xs pg rn zt) = memory (from_base stores (part_of 32 msz) zt pg rn (words xs zm msz))
-row (ScatterDx msz zm xs pg rn zt) = memory (from_base stores (part_of 64 msz) zt pg rn (words xs zm 0))
-row (ScatterDxScaled msz zm xs pg rn zt) = memory (from_base stores (part_of 64 msz) zt pg rn (words xs zm msz))
-row (ScatterD msz zm pg rn zt) = memory (from_base stores (part_of 64 msz) zt pg rn (doublewords zm 0))
-row (ScatterDScaled msz zm pg rn zt) = memory (from_base stores (part_of 64 msz) zt pg rn (doublewords zm msz))
-row (ScatterSv msz imm5 pg zn zt) = memory (from_vector stores (part_of 32 msz) zt pg zn imm5)
-row (ScatterDv msz imm5 pg zn zt) = memory (from_vector stores (part_of 64 msz) zt pg zn imm5)
+row (ScatterSx msz zm xs pg rn zt) = memory (from_base stores (low_part 32 msz) zt pg rn (by_words xs zm 0))
+row (ScatterSxScaled msz zm xs pg rn zt) = memory (from_base stores (low_part 32 msz) zt pg rn (by_words xs zm msz))
+row (ScatterDx msz zm xs pg rn zt) = memory (from_base stores (low_part 64 msz) zt pg rn (by_words xs zm 0))
+row (ScatterDxScaled msz zm xs pg rn zt) = memory (from_base stores (low_part 64 msz) zt pg rn (by_words xs zm msz))
+row (ScatterD msz zm pg rn zt) = memory (from_base stores (low_part 64 msz) zt pg rn (by_doublewords zm 0))
+row (ScatterDScaled msz zm pg rn zt) = memory (from_base stores (low_part 64 msz) zt pg rn (by_doublewords zm msz))
+row (ScatterSv msz imm5 pg zn zt) = memory (from_vector stores (low_part 32 msz) zt pg zn imm5)
+row (ScatterDv msz imm5 pg zn zt) = memory (from_vector stores (low_part 64 msz) zt pg zn imm5)
 
 -- What an SVE instruction does: what its row does.
 abbrev pub performed : SveForm → Core → Vectors → Memory → Done
-performed form c v m = done_by (row form) c v m
+performed form c v m = performed_by (row form) c v m

@@ -7,7 +7,7 @@ use Rattle.emu_model.specs.SoundDone.{IsSoundDone, IsSoundRegisters, went_on_sou
 use Rattle.emu_model.specs.State.{Core, Vectors}
 use Rattle.emu_model.specs.SoundState.{IsSoundCore, IsSoundVectors, IsSoundMemory}
 use Rattle.sve_effects.specs.Rows.{performed}
-use Rattle.sve_effects.specs.Row.{Row, by_lanes, by_registers, memory, done_by_way, done_by}
+use Rattle.sve_effects.specs.VectorRow.{VectorRow, by_lanes, by_registers, memory, done_by_way, performed_by}
 use Rattle.sve_effects.specs.Effects.{registers_after}
 use Rattle.sve_effects.specs.Rows.{row}
 use Rattle.sve_effects.specs.SoundRows.{registers_sound}
@@ -21,7 +21,7 @@ module _ (c : Core) (v : Vectors) (m : Memory) (s : IsSoundCore c) (u : IsSoundV
   way_sound first_faults r = first_fault_row_sound c v m s u t false r (elements_of (row_layout r c v))
   way_sound non_faults r = first_fault_row_sound c v m s u t true r (elements_of (row_layout r c v))
 
-  row_sound : (r : Row) → IsSoundRegisters (registers_after r c v) → IsSoundDone (done_by r c v m)
+  row_sound : (r : VectorRow) → IsSoundRegisters (registers_after r c v) → IsSoundDone (performed_by r c v m)
   row_sound (by_lanes f) h = went_on_sound (leaves c (f c v)) m h t
   row_sound (by_registers f) h = went_on_sound (f c v) m h t
   row_sound (memory r) h = way_sound r.way r

@@ -26,10 +26,10 @@ use Rattle.sve_effects.specs.Lane.{unary_lane, multiply_z, multiply_d, dot_produ
 use Rattle.sve_effects.specs.LaneLoop.{lane_bits, lane_of, covering_lane, is_active, every_lane, merging, zeroing, folding}
 use Rattle.sve_effects.specs.Fold.{reduce_step, reduce_start, reduce_bits}
 use Rattle.lane_model.specs.Permute.{taken, ext_place, rev_place, insr_place, indexed_place, half_place, copy_place, compact_place, splice_place}
-use Rattle.sve_effects.specs.PermuteRows.{interleave_place, lanes, with_places, bit_of_field, with_p_places, insert_scalar, copy_scalar, unpacks, is_high_p, dup_bits, dup_index, any_active, last_value, last_value_or, after_last, after_cond_last}
+use Rattle.sve_effects.specs.PermuteRows.{interleave_place, lanes, with_places, bit_of_field, with_p_places, inserted_scalar, copied_scalar, unpacks, is_high_p, dup_bits, dup_index, any_active, last_value, last_value_or, after_last, after_cond_last}
 use Rattle.lane_model.specs.Predicate.{pred_test, count_lanes}
 use Rattle.sve_effects.specs.PredicateRows.{predicate_bits, after_test, with_result, counted_by, set_lanes_of, terminates, termination_flags, written_ffr}
-use Rattle.sve_effects.specs.VectorData.{tsz_of, shift_bits, shifted_by, wide_unsigned, wide_signed, index_start, index_step, dot_of, indexed_lane, dot_indexed_lanes, copied}
+use Rattle.sve_effects.specs.VectorData.{tsz_of, shift_bits, shifted_by, wide_unsigned, wide_signed, index_start, index_step, dot_of, indexed_lane, dot_indexed_lanes, merging_or_zeroing}
 use Rattle.lane_model.specs.declared.places.LaneSource.{LaneSource}
 use Rattle.lane_model.specs.declared.places.LaneSource.TheVariants.{Scalar}
 use Rattle.emu_model.specs.Lanes.{read_p, with_lanes, with_low}
@@ -44,7 +44,7 @@ merging_sound e pg f zd v s = sound_lanes e (λ k. if is_active e v pg k then f 
 zeroing_sound : (e pg : ℕ) (f : ℕ → ℕ) (zd : ℕ) (v : Vectors) → IsSoundVectors v → IsSoundVectors (zeroing e pg f zd v)
 zeroing_sound e pg f zd v s = sound_lanes e (λ k. if is_active e v pg k then f k else 0) zd v s
 
-copied_sound : (m : Bool) (e pg : ℕ) (f : ℕ → ℕ) (zd : ℕ) (v : Vectors) → IsSoundVectors v → IsSoundVectors (copied m e pg f zd v)
+copied_sound : (m : Bool) (e pg : ℕ) (f : ℕ → ℕ) (zd : ℕ) (v : Vectors) → IsSoundVectors v → IsSoundVectors (merging_or_zeroing m e pg f zd v)
 copied_sound true e pg f zd v s = merging_sound e pg f zd v s
 copied_sound false e pg f zd v s = zeroing_sound e pg f zd v s
 
@@ -136,7 +136,7 @@ module _ (c : Core) (v : Vectors) (s : IsSoundCore c) (u : IsSoundVectors v) whe
   registers_sound (ReadLength imm6 rd) = x_sound rd (unsigned_int (multiple imm6 (length_of Addvl v)) 64)
   registers_sound (DupReg size rn zd) = moved_sound (lane_bits size) (λ k. Scalar) zd zd (read_x_sp c rn) zd
   registers_sound (DupLane imm2 tsz zn zd) = moved_sound (dup_bits tsz) (λ k. indexed_place (dup_index imm2 tsz) (lanes (dup_bits tsz) v)) zn zn 0 zd
-  registers_sound (Insert op size src zdn) = moved_sound (lane_bits size) insr_place zdn zdn (insert_scalar op (lane_bits size) src c v) zdn
+  registers_sound (Insert op size src zdn) = moved_sound (lane_bits size) insr_place zdn zdn (inserted_scalar op (lane_bits size) src c v) zdn
   registers_sound (RevZ size zn zd) = moved_sound (lane_bits size) (rev_place (lanes (lane_bits size) v)) zn zn 0 zd
   registers_sound (Unpack op size zn zd) =
       let e : ℕ = lane_bits size in
@@ -149,7 +149,7 @@ module _ (c : Core) (v : Vectors) (s : IsSoundCore c) (u : IsSoundVectors v) whe
   registers_sound (Compact size pg zn zd) = moved_sound (lane_bits size) (compact_place (is_active (lane_bits size) v pg) (lanes (lane_bits size) v)) zn zn 0 zd
   registers_sound (Splice size pg zm zdn) = moved_sound (lane_bits size) (splice_place (is_active (lane_bits size) v pg) (lanes (lane_bits size) v)) zdn zm 0 zdn
   registers_sound (Ext imm8h imm8l zm zdn) = moved_sound 8 (ext_place (imm8h * 8 + imm8l) (lanes 8 v)) zdn zm 0 zdn
-  registers_sound (CopyReg op size pg rn zd) = moved_sound (lane_bits size) (copy_place (is_active (lane_bits size) v pg)) zd zd (copy_scalar op (lane_bits size) rn c v) zd
+  registers_sound (CopyReg op size pg rn zd) = moved_sound (lane_bits size) (copy_place (is_active (lane_bits size) v pg)) zd zd (copied_scalar op (lane_bits size) rn c v) zd
   registers_sound (Last op size pg zn rd) = last_sound op (lane_bits size) pg zn rd
   registers_sound (CondLast op size pg zm zdn) = cond_last_sound op (lane_bits size) pg zm zdn
   registers_sound (CmpVec op size zm pg zn pd) = put_sound true (lane_bits size) (read_p v pg) pd _

@@ -84,5 +84,5 @@ dot_indexed_lanes is_signed e i zm zn zda v =
 -- ---- copies
 
 -- active lanes are copied; the others keep their value where `merges` is true (/m), else they are 0 (/z)
-abbrev pub copied : Bool → ℕ → ℕ → (ℕ → ℕ) → ℕ → Vectors → Vectors
-copied merges e pg f zd v = if merges then merging e pg f zd v else zeroing e pg f zd v
+abbrev pub merging_or_zeroing : Bool → ℕ → ℕ → (ℕ → ℕ) → ℕ → Vectors → Vectors
+merging_or_zeroing merges e pg f zd v = if merges then merging e pg f zd v else zeroing e pg f zd v

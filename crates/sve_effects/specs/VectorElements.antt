@@ -39,7 +39,7 @@ pub record Width : Type 0 where
 pub data LaneChoice : Type 0 where
   -- each active lane its own
   each_active : ℕ → LaneChoice
-  -- each active one of the first 128 bits, which are then repeated
+  -- each active lane of the first 128 bits, which are then repeated
   each_repeated : ℕ → LaneChoice
   -- the first active one, and its element is then in each active lane
   replicated : ℕ → LaneChoice
@@ -61,9 +61,9 @@ pub data Offset : Type 0 where
   -- #imm9, mul vl, of a whole register
   whole_lengths : ℕ → Offset
   -- Zm.T, uxtw #scale, or sxtw where true
-  words : Bool → ℕ → ℕ → Offset
+  by_words : Bool → ℕ → ℕ → Offset
   -- Zm.d, lsl #scale
-  doublewords : ℕ → ℕ → Offset
+  by_doublewords : ℕ → ℕ → Offset
 
 -- [Xn|SP, an offset], or [Zn.T, #imm5]
 pub data Brackets : Type 0 where
@@ -137,17 +137,17 @@ store_registers St4 = 4
 abbrev pub by_dtype : ℕ → Width
 by_dtype dtype = record { bits = dtype_bits dtype; bytes = dtype_bytes dtype; is_signed = dtype_signed dtype }
 
--- an element of 2 to the power of msz bytes in a lane of so many bits, extended by its sign where u is false, else by 0
+-- an element of 2 to the power of msz bytes in a lane of so many bits, by its sign where u is false, else by zeros
 abbrev pub extending : ℕ → ℕ → Bool → Width
 extending bits msz u = record { bits = bits; bytes = 2 ^ msz; is_signed = not u }
 
--- the same extended by 0 in a load, and of a store the low bytes of the lane
-abbrev pub part_of : ℕ → ℕ → Width
-part_of bits msz = record { bits = bits; bytes = 2 ^ msz; is_signed = false }
+-- the same with zeros above it in a load, and of a store the low bytes of the lane
+abbrev pub low_part : ℕ → ℕ → Width
+low_part bits msz = record { bits = bits; bytes = 2 ^ msz; is_signed = false }
 
 -- an element that fills its lane
 abbrev pub full_width : ℕ → Width
-full_width msz = part_of (lane_bits msz) msz
+full_width msz = low_part (lane_bits msz) msz
 
 -- a whole register goes byte by byte
 abbrev pub single_bytes : Width
@@ -200,9 +200,9 @@ offset_address (by_register rm) r rn c v = following r (base_and_register c rn r
 offset_address (single imm6) r rn c v = λ k j. base_and_count c rn (pos imm6) r.width.bytes
 offset_address (whole_lengths imm9) r rn c v = λ k j.
     address (base_and_count c rn (signed imm9 9) (lane_count r.choice r.width.bits v) + k)
-offset_address (words is_signed zm scale) r rn c v = λ k j.
+offset_address (by_words is_signed zm scale) r rn c v = λ k j.
     address (read_x_sp c rn + word_offset is_signed (lane_of r.width.bits v zm k) * 2 ^ scale)
-offset_address (doublewords zm scale) r rn c v = λ k j. address (read_x_sp c rn + lane_of 64 v zm k * 2 ^ scale)
+offset_address (by_doublewords zm scale) r rn c v = λ k j. address (read_x_sp c rn + lane_of 64 v zm k * 2 ^ scale)
 
 -- the same by the brackets: of [Zn.T, #imm5] the lanes of Zn, unsigned, and imm5 elements on
 abbrev pub element_address : Brackets → MemoryRow → Core → Vectors → ℕ → ℕ → ℕ

@@ -45,7 +45,7 @@ abbrev pub with_loaded_bits : Layout → Memory → Vectors → Vectors
 with_loaded_bits l m v =
     with_p v l.register (each (v.bits / 8) (λ j. nat_eq (value m (l.address (j / 8) 0) 1 / 2 ^ (j % 8) % 2) 1))
 
--- by what of the registers the elements are
+-- what a load writes, by the choice of its lanes
 abbrev pub after_load : LaneChoice → Bool → Layout → Memory → Vectors → Vectors
 after_load (each_active pg) is_signed l m v = with_loaded is_signed l m l.registers v
 after_load (each_repeated pg) is_signed l m v = with_repeated l m v

@@ -17,7 +17,7 @@ use Rattle.sve_effects.specs.VectorElements.{Layout, elements_below}
 use Rattle.element_loops.specs.SoFar.{element_of_lane}
 use Rattle.element_loops.proofs.Lists.{one_element}
 use Rattle.element_loops.proofs.Turns.{skipped, below_none}
-use Rattle.sve_ffr.specs.Taking.{AreFrom, lanes_of, taken_value}
+use Rattle.sve_ffr.specs.Taking.{AreFrom, lane_numbers, taken_value}
 use Rattle.sve_ffr.proofs.Takes.{before_none}
 
 -- ---- the first that is refused
@@ -28,7 +28,7 @@ pub record Suppresses (m : Memory) (es : List Element) (n k : ℕ) : Type 0 wher
   pub before : at ≤ k
   pub within : at < n
 
-starts_before : (e : Element) (es : List Element) (n k : ℕ) (x : Element) → AreFrom (e.lane + 1) n (lanes_of es) → (if nat_eq e.lane k then Some e else element_at es k) ≡ Some x → e.lane ≤ k
+starts_before : (e : Element) (es : List Element) (n k : ℕ) (x : Element) → AreFrom (e.lane + 1) n (lane_numbers es) → (if nat_eq e.lane k then Some e else element_at es k) ≡ Some x → e.lane ≤ k
 starts_before e es n k x from h = elim (cases_lt k (e.lane + 1)) [
   | inl early ↦ elim (nat_eq e.lane k) as (λ t. nat_eq e.lane k ≡ t → e.lane ≤ k) [
     | true ↦ λ same. let q : e.lane ≡ k = eqb-true e.lane k same in omega arith
@@ -39,7 +39,7 @@ starts_before e es n k x from h = elim (cases_lt k (e.lane + 1)) [
   | inr late ↦ omega arith
 ]
 
-pub refused_first : (es : List Element) (m : Memory) (s n k : ℕ) (x : Element) → AreFrom s n (lanes_of es) → element_at es k ≡ Some x → is_refused m x ≡ true → Suppresses m es n k
+pub refused_first : (es : List Element) (m : Memory) (s n k : ℕ) (x : Element) → AreFrom s n (lane_numbers es) → element_at es k ≡ Some x → is_refused m x ≡ true → Suppresses m es n k
 refused_first [] m s n k x from at refused = let bad : None ≡ Some x = at in cc
 refused_first (e ∷ es) m s n k x from at refused =
     elim (is_refused m e) as (λ t. is_refused m e ≡ t → Suppresses m (e ∷ es) n k) [
@@ -100,7 +100,7 @@ behind_first n test q k within meets le =
 
 -- ---- so a lane before the first cleared bit has what was loaded
 
-pub lanes_agree : (s : Bool) (e n : ℕ) (m : Memory) (es : List Element) (ffr : List Bool) (k : ℕ) → AreFrom 0 n (lanes_of es)
+pub lanes_agree : (s : Bool) (e n : ℕ) (m : Memory) (es : List Element) (ffr : List Bool) (k : ℕ) → AreFrom 0 n (lane_numbers es)
     → is_before (first_cleared e (cleared_from e (first_suppressed m es) ffr) n) k ≡ true → taken_value s e m (element_at es k) ≡ loaded_from s e m (element_at es k)
 lanes_agree s e n m es ffr k from before =
     elim (element_at es k) as (λ (o : Option Element). element_at es k ≡ o → taken_value s e m o ≡ loaded_from s e m o) [
@@ -126,16 +126,16 @@ from_more : (qs : List ℕ) (s k : ℕ) → AreFrom s k qs → AreFrom s (k + 1)
 from_more [] s k h = tt
 from_more (q ∷ qs) s k h = let small : q < k = h.1 in (h.0, omega arith, from_more qs (q + 1) k h.2)
 
-pub below_from : (k : ℕ) (l : Layout) → l.registers ≡ 1 → AreFrom 0 k (lanes_of (elements_below l k))
-below_from zero l one = subst (λ (es : List Element). AreFrom 0 0 (lanes_of es)) (sym (below_none l)) tt
+pub below_from : (k : ℕ) (l : Layout) → l.registers ≡ 1 → AreFrom 0 k (lane_numbers (elements_below l k))
+below_from zero l one = subst (λ (es : List Element). AreFrom 0 0 (lane_numbers es)) (sym (below_none l)) tt
 below_from (suc k) l one =
-    let so_far : AreFrom 0 k (lanes_of (elements_below l k)) = below_from k l one in
+    let so_far : AreFrom 0 k (lane_numbers (elements_below l k)) = below_from k l one in
     let next : k + 1 ≡ suc k = omega arith in
-    let step : AreFrom 0 (k + 1) (lanes_of (elements_below l (k + 1))) = elim (l.is_on k) as (λ t. l.is_on k ≡ t → AreFrom 0 (k + 1) (lanes_of (elements_below l (k + 1)))) [
+    let step : AreFrom 0 (k + 1) (lane_numbers (elements_below l (k + 1))) = elim (l.is_on k) as (λ t. l.is_on k ≡ t → AreFrom 0 (k + 1) (lane_numbers (elements_below l (k + 1)))) [
       | true ↦ λ on.
-          let is : lanes_of (elements_below l (k + 1)) ≡ lanes_of (elements_below l k) ++ k ∷ []
-          = ap lanes_of (one_element l k one on) ∙ map-append (λ (e : Element). e.lane) (elements_below l k) (element_of_lane l k 0 ∷ []) in
-          subst (λ qs. AreFrom 0 (k + 1) qs) (sym is) (from_append (lanes_of (elements_below l k)) 0 k (omega arith) so_far)
-      | false ↦ λ off. subst (λ (es : List Element). AreFrom 0 (k + 1) (lanes_of es)) (sym (skipped l k off)) (from_more (lanes_of (elements_below l k)) 0 k so_far)
+          let is : lane_numbers (elements_below l (k + 1)) ≡ lane_numbers (elements_below l k) ++ k ∷ []
+          = ap lane_numbers (one_element l k one on) ∙ map-append (λ (e : Element). e.lane) (elements_below l k) (element_of_lane l k 0 ∷ []) in
+          subst (λ qs. AreFrom 0 (k + 1) qs) (sym is) (from_append (lane_numbers (elements_below l k)) 0 k (omega arith) so_far)
+      | false ↦ λ off. subst (λ (es : List Element). AreFrom 0 (k + 1) (lane_numbers es)) (sym (skipped l k off)) (from_more (lane_numbers (elements_below l k)) 0 k so_far)
     ] refl in
-    subst (λ n. AreFrom 0 n (lanes_of (elements_below l n))) next step
+    subst (λ n. AreFrom 0 n (lane_numbers (elements_below l n))) next step

@@ -18,10 +18,10 @@ use Rattle.sve_effects.specs.FirstFaultParts.{with_first_fault, first_fault_load
 use Rattle.std.specs.Option.{option_or}
 use Rattle.sve_effects.specs.VectorLoadStore.{tests_sp, is_misaligned}
 use Rattle.element_loops.specs.Listed.{listed, listed_at}
-use Rattle.sve_ffr.specs.declared.row.Row.{Row}
+use Rattle.sve_ffr.specs.declared.first_fault_load.FirstFaultLoad.{FirstFaultLoad}
 use Rattle.sve_ffr.specs.declared.taking.Taken.{Taken}
 use Rattle.sve_ffr.specs.Rows.{first_fault_by}
-use Rattle.sve_ffr.specs.Taking.{AreFrom, AreTaken, lanes_of, rest_of, taken_lane}
+use Rattle.sve_ffr.specs.Taking.{AreFrom, AreTaken, lane_numbers, rest_of, taken_lane}
 use Rattle.sve_ffr.proofs.Cleared.{lanes_agree}
 use Rattle.sve_ffr.proofs.Takes.{rest_more}
 
@@ -40,12 +40,12 @@ or_else_none : (o : Option ℕ) → option_or o None ≡ o
 or_else_none None = refl
 or_else_none (Some k) = refl
 
-nothing_left : (es : List Element) (n : ℕ) → AreFrom n n (lanes_of es) → es ≡ []
+nothing_left : (es : List Element) (n : ℕ) → AreFrom n n (lane_numbers es) → es ≡ []
 nothing_left [] n h = refl
 nothing_left (e ∷ es) n h = let from : n ≤ e.lane = h.0 in let below : e.lane < n = h.1 in absurd (omega arith)
 
 module _ (r e : ℕ) (list : ElementList) (v w next : Vectors) (m now : Memory) (t : Taken) (end : Option ℕ) (log : List Access) (c : Core) where
-  pub loaded_is : AreFrom 0 (v.bits / e) (lanes_of (listed r list)) → AreTaken r e (v.bits / e) list m (v.bits / e) t log
+  pub loaded_is : AreFrom 0 (v.bits / e) (lane_numbers (listed r list)) → AreTaken r e (v.bits / e) list m (v.bits / e) t log
       → w ≡ with_ffr v (cleared_from e t.suppressed v.ffr) → end ≡ first_cleared e w.ffr (w.bits / e)
       → ((f h : ℕ → ℕ) → t.values.items ≡ each (w.bits / e) f → ((k : ℕ) → is_before end k ≡ true → f k ≡ h k) → next ≡ with_lanes e (λ k. if is_before end k then h k else 0) r w)
       → now ≡ m → first_fault_loaded list.signed e r (listed r list) c v m ≡ record { core = c; vectors = next; memory = now; accesses = log; effect = Next }
@@ -73,7 +73,7 @@ module _ (r e : ℕ) (list : ElementList) (v w next : Vectors) (m now : Memory) 
 
 -- ---- no trap
 
-pub by_loaded : (row : Row) (s : Bool) (es : List Element) (c : Core) (v : Vectors) (m now : Memory) (d : Done) → is_misaligned row.has_sp_base es c ≡ false
+pub by_loaded : (row : FirstFaultLoad) (s : Bool) (es : List Element) (c : Core) (v : Vectors) (m now : Memory) (d : Done) → is_misaligned row.has_sp_base es c ≡ false
     → (if row.is_non_fault then None else first_refused m es) ≡ None → now ≡ m → first_fault_loaded s row.bits row.register es c v now ≡ d → first_fault_by row s es c v m ≡ d
 by_loaded row s es c v m now d aligned allowed same loaded =
     ap (λ (t : Bool). if t then traps c v m SpAlign c.sp else loaded_unless (if row.is_non_fault then None else first_refused m es) (first_fault_loaded s row.bits row.register es c v m) c v m) aligned

@@ -14,14 +14,14 @@ use Rattle.std.specs.Option.{option_or}
 use Rattle.element_loops.proofs.Writes.{push_each}
 use Rattle.element_loops.specs.Listed.{listed, listed_at}
 use Rattle.sve_ffr.specs.declared.taking.Taken.{Taken}
-use Rattle.sve_ffr.specs.Taking.{AreFrom, AreTaken, lanes_of, rest_of, starts_at, taken_value, taken_lane}
+use Rattle.sve_ffr.specs.Taking.{AreFrom, AreTaken, lane_numbers, rest_of, starts_at, taken_value, taken_lane}
 
 differs : (a b : ℕ) → b < a → nat_eq a b ≡ false
 differs a b h = grind (arith, nat_tests)
 
 -- ---- lanes in order
 
-pub before_none : (es : List Element) (s n k : ℕ) → AreFrom s n (lanes_of es) → k < s → element_at es k ≡ None
+pub before_none : (es : List Element) (s n k : ℕ) → AreFrom s n (lane_numbers es) → k < s → element_at es k ≡ None
 before_none [] s n k h b = refl
 before_none (e ∷ es) s n k h b =
     let from : s ≤ e.lane = h.0 in
@@ -29,7 +29,7 @@ before_none (e ∷ es) s n k h b =
     let later : k < e.lane + 1 = omega arith in
     ap (λ (t : Bool). if t then Some e else element_at es k) (differs e.lane k above) ∙ before_none es (e.lane + 1) n k h.2 later
 
-pub none_here : (es : List Element) (k n : ℕ) → AreFrom k n (lanes_of es) → starts_at es k ≡ false → AreFrom (k + 1) n (lanes_of es)
+pub none_here : (es : List Element) (k n : ℕ) → AreFrom k n (lane_numbers es) → starts_at es k ≡ false → AreFrom (k + 1) n (lane_numbers es)
 none_here [] k n h off = tt
 none_here (e ∷ es) k n h off =
     let other : e.lane ≡ k → ⊥ = eqb-false e.lane k off in
@@ -53,12 +53,12 @@ or_else_later (Some q) k o = refl
 module _ (r e n : ℕ) (list : ElementList) (m : Memory) (k : ℕ) (t after : Taken) (log : List Access) (h : AreTaken r e n list m k t log) where
   pub take_none : starts_at (rest_of r list t.next) k ≡ false → after.next ≡ t.next → after.suppressed ≡ t.suppressed → after.values.items ≡ t.values.items ++ 0 ∷ [] → AreTaken r e n list m (k + 1) after log
   take_none off next suppressed values =
-      let from : AreFrom (k + 1) n (lanes_of (rest_of r list t.next)) = none_here (rest_of r list t.next) k n h.ascending off in
+      let from : AreFrom (k + 1) n (lane_numbers (rest_of r list t.next)) = none_here (rest_of r list t.next) k n h.ascending off in
       let here : element_at (listed r list) k ≡ None = h.rest k (omega arith) ∙ before_none (rest_of r list t.next) (k + 1) n k from (omega arith) in
       record {
         values = push_each k (taken_lane r e list m) 0 t.values.items after.values.items values h.values (sym (ap (taken_value list.signed e m) here));
         rest = λ j le. h.rest j (omega arith) ∙ ap (λ i. element_at (rest_of r list i) j) (sym next);
-        ascending = subst (λ i. AreFrom (k + 1) n (lanes_of (rest_of r list i))) (sym next) from;
+        ascending = subst (λ i. AreFrom (k + 1) n (lane_numbers (rest_of r list i))) (sym next) from;
         logged = ap (λ i. log ++ accesses_of false (unsuppressed m (rest_of r list i))) next ∙ h.logged;
         suppressed = ap (λ (o : Option ℕ). option_or o (first_suppressed m (rest_of r list after.next))) suppressed ∙ ap (λ i. option_or t.suppressed (first_suppressed m (rest_of r list i))) next ∙ h.suppressed;
         room = let room : length log ≤ k = h.room in omega arith;
@@ -72,10 +72,10 @@ module _ (r e n : ℕ) (list : ElementList) (m : Memory) (k : ℕ) (t after : Ta
     same : (element_of r list t.next).lane ≡ k
     same = eqb-true (element_of r list t.next).lane k (sym (ap (λ (es : List Element). starts_at es k) more) ∙ on)
 
-    from : AreFrom (k + 1) n (lanes_of (rest_of r list (t.next + 1)))
+    from : AreFrom (k + 1) n (lane_numbers (rest_of r list (t.next + 1)))
     from =
-        let all : AreFrom k n (lanes_of (element_of r list t.next ∷ rest_of r list (t.next + 1))) = subst (λ (es : List Element). AreFrom k n (lanes_of es)) more h.ascending in
-        subst (λ q. AreFrom (q + 1) n (lanes_of (rest_of r list (t.next + 1)))) same all.2
+        let all : AreFrom k n (lane_numbers (element_of r list t.next ∷ rest_of r list (t.next + 1))) = subst (λ (es : List Element). AreFrom k n (lane_numbers es)) more h.ascending in
+        subst (λ q. AreFrom (q + 1) n (lane_numbers (rest_of r list (t.next + 1)))) same all.2
 
     here : element_at (listed r list) k ≡ Some (element_of r list t.next)
     here =
@@ -104,7 +104,7 @@ module _ (r e n : ℕ) (list : ElementList) (m : Memory) (k : ℕ) (t after : Ta
         record {
           values = push_each k (taken_lane r e list m) x t.values.items after.values.items values h.values (sym gives);
           rest = λ j le. later j le ∙ ap (λ i. element_at (rest_of r list i) j) (sym next);
-          ascending = subst (λ i. AreFrom (k + 1) n (lanes_of (rest_of r list i))) (sym next) from;
+          ascending = subst (λ i. AreFrom (k + 1) n (lane_numbers (rest_of r list i))) (sym next) from;
           logged = ap (λ i. after_log ++ accesses_of false (unsuppressed m (rest_of r list i))) next
               ∙ ap (λ (l : List Access). l ++ accesses_of false (unsuppressed m rest)) logged
               ∙ append_assoc log (record { address = q.address; bytes = list.bytes; write = false } ∷ []) (accesses_of false (unsuppressed m rest))
@@ -129,7 +129,7 @@ module _ (r e n : ℕ) (list : ElementList) (m : Memory) (k : ℕ) (t after : Ta
         record {
           values = push_each k (taken_lane r e list m) 0 t.values.items after.values.items values h.values (sym gives);
           rest = λ j le. later j le ∙ ap (λ i. element_at (rest_of r list i) j) (sym next);
-          ascending = subst (λ i. AreFrom (k + 1) n (lanes_of (rest_of r list i))) (sym next) from;
+          ascending = subst (λ i. AreFrom (k + 1) n (lane_numbers (rest_of r list i))) (sym next) from;
           logged = ap (λ i. after_log ++ accesses_of false (unsuppressed m (rest_of r list i))) next
               ∙ ap (λ (l : List Access). l ++ accesses_of false (unsuppressed m rest)) logged
               ∙ ap (λ (es : List Element). log ++ accesses_of false es) (sym kept) ∙ h.logged;

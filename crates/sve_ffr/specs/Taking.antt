@@ -12,8 +12,8 @@ use Rattle.element_loops.specs.Listed.{listed, listed_at}
 use Rattle.sve_ffr.specs.declared.taking.Taken.{Taken}
 
 -- the lanes of some elements
-abbrev pub lanes_of : List Element → List ℕ
-lanes_of es = map (λ e. e.lane) es
+abbrev pub lane_numbers : List Element → List ℕ
+lane_numbers es = map (λ e. e.lane) es
 
 -- lanes from k on and below n, each above the one before
 abbrev pub AreFrom : ℕ → ℕ → List ℕ → Type 0
@@ -41,7 +41,7 @@ taken_lane r e list m k = taken_value list.signed e m (element_at (listed r list
 pub record AreTaken (r e n : ℕ) (list : ElementList) (m : Memory) (k : ℕ) (t : Taken) (log : List Access) : Type 0 where
   pub values : t.values.items ≡ each k (taken_lane r e list m)
   pub rest : (j : ℕ) → k ≤ j → element_at (listed r list) j ≡ element_at (rest_of r list t.next) j
-  pub ascending : AreFrom k n (lanes_of (rest_of r list t.next))
+  pub ascending : AreFrom k n (lane_numbers (rest_of r list t.next))
   pub logged : log ++ accesses_of false (unsuppressed m (rest_of r list t.next)) ≡ accesses_of false (unsuppressed m (listed r list))
   pub suppressed : option_or t.suppressed (first_suppressed m (rest_of r list t.next)) ≡ first_suppressed m (listed r list)
   pub room : length log ≤ k

@@ -2,14 +2,14 @@
 #![tactic(auto)]
 
 mod ffr;
+mod first_fault_load;
 mod load;
-mod row;
 mod taking;
 
 ghost use Rattle.std.specs.Prelude.{◌≡◌, [], true};
 ghost use Rattle.sve_effects.specs.Effects.{first_fault_of, layout, vector_elements, is_first_fault, loads_signed};
 ghost use Rattle.element_loops.specs.Listed.{listed};
-ghost use Rattle.sve_ffr.specs.Taking.{lanes_of};
+ghost use Rattle.sve_ffr.specs.Taking.{lane_numbers};
 
 use core_regs::{Core, Effect};
 use guest_mem::{AccessLog, ElementList, Mem};
@@ -38,8 +38,8 @@ pub fn exec(
     list: &ElementList,
 ) -> Effect
     requires own { is_first_fault i.now ≡ true }
-    requires lanes { let l = layout i.now core.old vec.old in lanes_of (listed l.register list.now)
-        ≡ lanes_of (vector_elements i.now core.old vec.old) }
+    requires lanes { let l = layout i.now core.old vec.old in lane_numbers (listed l.register list.now)
+        ≡ lane_numbers (vector_elements i.now core.old vec.old) }
     requires bytes { let l = layout i.now core.old vec.old in list.now.bytes ≡ l.bytes }
     requires is_signed { list.now.signed ≡ loads_signed i.now }
     requires empty { log.old.items ≡ [] }
@@ -48,6 +48,6 @@ pub fn exec(
         ≡ record { core = core.new; vectors = vec.new; memory = m; accesses = log.new.items; effect = result } }
     ensures marks { mem.new.marks ≡ mem.old.marks }
 {
-    let row = row::row_of(i);
+    let row = first_fault_load::first_fault_load_of(i);
     load::first_fault(core, vec, mem, log, &row, list)
 }

@@ -10,10 +10,10 @@ ghost use Rattle.sve_effects.specs.FirstFaultParts.{first_fault_loaded};
 ghost use Rattle.sve_effects.specs.VectorLoadStore.{tests_sp};
 ghost use Rattle.element_loops.specs.Listed.{listed};
 ghost use Rattle.sve_ffr.specs.Rows.{first_fault_by};
-ghost use Rattle.sve_ffr.specs.Taking.{AreFrom, lanes_of};
+ghost use Rattle.sve_ffr.specs.Taking.{AreFrom, lane_numbers};
 
 use crate::ffr::{clear, first_cleared, write};
-use crate::row::Row;
+use crate::first_fault_load::FirstFaultLoad;
 use crate::taking::take;
 use core_regs::{Core, Effect, Trap, TrapKind};
 use guest_mem::element_access::test_sp;
@@ -30,14 +30,14 @@ fn has_element(list: &ElementList) -> bool
 }
 
 /// Whether SP is tested: it is the base, and there is an element.
-fn tests_sp(row: &Row, list: &ElementList) -> bool
+fn tests_sp(row: &FirstFaultLoad, list: &ElementList) -> bool
     ensures { result ≡ tests_sp row.now.has_sp_base (listed row.now.register list.now) }
 {
     row.has_sp_base && has_element(list)
 }
 
 /// Tests the element of the first active lane, unless no element traps.
-fn test_first(mem: &mut Mem, row: &Row, list: &ElementList) -> Result<(), Trap>
+fn test_first(mem: &mut Mem, row: &FirstFaultLoad, list: &ElementList) -> Result<(), Trap>
     requires some { 1 ≤ list.now.bytes }
     requires most { list.now.bytes ≤ 8 }
     ensures result { let denied : Option ℕ = if row.now.is_non_fault then None
@@ -58,11 +58,17 @@ fn test_first(mem: &mut Mem, row: &Row, list: &ElementList) -> Result<(), Trap>
 }
 
 /// Loads the elements of a list that aren't refused, and writes FFR and the register.
-fn load(vec: &mut VecRegs, mem: &mut Mem, log: &mut AccessLog, row: &Row, list: &ElementList)
+fn load(
+    vec: &mut VecRegs,
+    mem: &mut Mem,
+    log: &mut AccessLog,
+    row: &FirstFaultLoad,
+    list: &ElementList,
+)
     requires size { IsLaneSize row.now.bits }
     requires some { 1 ≤ list.now.bytes }
     requires most { list.now.bytes ≤ 8 }
-    requires lanes { AreFrom 0 (vec.old.bits / row.now.bits) (lanes_of (listed row.now.register list.now)) }
+    requires lanes { AreFrom 0 (vec.old.bits / row.now.bits) (lane_numbers (listed row.now.register list.now)) }
     requires empty { log.old.items ≡ [] }
     ensures done { let m = mem.new.memory in (c : CoreState) → first_fault_loaded list.now.signed
         row.now.bits row.now.register (listed row.now.register list.now) c vec.old mem.old.memory
@@ -82,13 +88,13 @@ pub(crate) fn first_fault(
     vec: &mut VecRegs,
     mem: &mut Mem,
     log: &mut AccessLog,
-    row: &Row,
+    row: &FirstFaultLoad,
     list: &ElementList,
 ) -> Effect
     requires size { IsLaneSize row.now.bits }
     requires some { 1 ≤ list.now.bytes }
     requires most { list.now.bytes ≤ 8 }
-    requires lanes { AreFrom 0 (vec.old.bits / row.now.bits) (lanes_of (listed row.now.register list.now)) }
+    requires lanes { AreFrom 0 (vec.old.bits / row.now.bits) (lane_numbers (listed row.now.register list.now)) }
     requires empty { log.old.items ≡ [] }
     ensures done { let m = mem.new.memory in first_fault_by row.now list.now.signed
         (listed row.now.register list.now) core.now vec.old mem.old.memory

@@ -4,7 +4,7 @@ ghost use Rattle.arrayvec.specs.ArrayVec.{array_vec_len};
 ghost use Rattle.emu_model.specs.LaneSizes.{IsLaneSize};
 ghost use Rattle.std.specs.Option.{option_or};
 ghost use Rattle.element_loops.specs.Listed.{listed};
-ghost use Rattle.sve_ffr.specs.Taking.{AreFrom, AreTaken, lanes_of, rest_of, starts_at};
+ghost use Rattle.sve_ffr.specs.Taking.{AreFrom, AreTaken, lane_numbers, rest_of, starts_at};
 
 use arrayvec::ArrayVec;
 use guest_mem::element_access::load_u64;
@@ -86,7 +86,7 @@ pub(crate) fn take(mem: &mut Mem, log: &mut AccessLog, list: &ElementList, e: u3
     requires few { n ≤ 256 }
     requires empty { log.old.items ≡ [] }
     // of whatever register the elements are
-    ensures taken { (r : ℕ) → AreFrom 0 n (lanes_of (listed r list.now))
+    ensures taken { (r : ℕ) → AreFrom 0 n (lane_numbers (listed r list.now))
         → AreTaken r e n list.now mem.old.memory n result log.new.items }
     ensures count { array_vec_len result.values ≡ n }
     ensures memory { mem.new ≡ mem.old }

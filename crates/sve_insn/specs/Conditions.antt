@@ -39,7 +39,7 @@ is_division op = false
 unfoldable pub binary_holds_for : BinaryOp → ℕ → Bool
 binary_holds_for op size = is_word_or_doubleword size || not (is_division op)
 
--- The size of lanes that tszh:tszl gives isn't missing: it isn't 0.
+-- tszh:tszl isn't 0: its highest bit that is set gives the size of lanes.
 unfoldable pub has_tsz : ℕ → ℕ → Bool
 has_tsz tszh tszl = not (tszh == 0) || not (tszl == 0)
 
@@ -73,7 +73,7 @@ unfoldable pub reduce_holds_for : ReduceOp → ℕ → Bool
 reduce_holds_for reduce.Saddv size = is_no_doubleword size
 reduce_holds_for op size = true
 
--- A bit of tsz, the lowest that is set, gives the size of lanes.
+-- tsz isn't 0: its lowest bit that is set gives the size of lanes.
 unfoldable pub has_lane_size : ℕ → Bool
 has_lane_size tsz = not (tsz == 0)
 
@@ -86,7 +86,7 @@ unfoldable pub write_ffr_holds_for : WriteFfrOp → ℕ → Bool
 write_ffr_holds_for write_ffr.Setffr pn = pn == 0
 write_ffr_holds_for write_ffr.Wrffr pn = true
 
--- An offset is in a register, whose number isn't 31.
+-- The offset's register isn't XZR.
 unfoldable pub is_register : ℕ → Bool
 is_register rm = not (rm == 31)
 

@@ -197,7 +197,7 @@ pub(crate) fn copy_reg(
 /// The scalar that is inserted.
 fn insert_scalar(core: &Core, vec: &VecRegs, op: InsertOp, e: u32, src: Reg) -> u64
     requires { IsLaneSize e }
-    ensures { result ≡ model.insert_scalar op e src core.now vec.now }
+    ensures { result ≡ model.inserted_scalar op e src core.now vec.now }
 {
     match op {
         InsertOp::InsrR => core.x(src),
@@ -208,7 +208,7 @@ fn insert_scalar(core: &Core, vec: &VecRegs, op: InsertOp, e: u32, src: Reg) -> 
 /// The scalar that is copied.
 fn copy_scalar(core: &Core, vec: &VecRegs, op: CopyRegOp, e: u32, rn: Reg) -> u64
     requires { IsLaneSize e }
-    ensures { result ≡ model.copy_scalar op e rn core.now vec.now }
+    ensures { result ≡ model.copied_scalar op e rn core.now vec.now }
 {
     match op {
         CopyRegOp::CpyR => core.x_sp(rn),

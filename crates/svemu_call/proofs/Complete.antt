@@ -7,7 +7,7 @@ use Rattle.command_lines.specs.declared.ending.Ending.{Ending}
 use Rattle.command_lines.specs.declared.ending.Ending.TheVariants.{FileFault, ReadFault, WriteFault, ErrorsFault, OutOfMemory}
 use Rattle.command_model.specs.declared.command_line.Line.{Line}
 use Rattle.command_model.specs.declared.command_line.WordsFault.{WordsFault}
-use Rattle.commands.specs.Lines.{reads_first, takes_input, IsOutcome, SettlesLine}
+use Rattle.commands.specs.Lines.{reads_input_first, takes_input, IsOutcome, SettlesLine}
 use Rattle.commands.specs.Meets.{MeetsLine, now}
 use Rattle.commands.proofs.Settled.{rests_ends}
 use Rattle.emu_system.specs.Gained.{Gains}
@@ -38,7 +38,7 @@ module _ (words : List (List ℕ)) (result : Ending) (o0 e0 o1 e1 : Option (List
   meets_resting l files bytes old left none m =
       let of : CountsFor old (result_of words files bytes) bytes = subst (λ (b : Bool). MatchBool b (Unit {0}) (old ≡ Some bytes)) (sym none) (record {}) in
       record {
-        ends = λ fine. rests_ends (reads_first words files l) (result_of words files bytes) result none (m.settled fine bytes);
+        ends = λ fine. rests_ends (reads_input_first words files l) (result_of words files bytes) result none (m.settled fine bytes);
         output = m.output bytes of;
         errors = m.errors bytes of;
       }

@@ -8,15 +8,15 @@ ghost use Rattle.commands.specs.Lines.{
   takes_input,
   names_file,
   may_end,
-  reads_first,
+  reads_input_first,
   sweeps,
   IsOutcome,
   RefusesLine,
   SettlesLine,
   MissesFirst,
   EndsMissing,
-  TakesFirst,
-  TakesLast,
+  ReadsInputFirst,
+  TakesNothingEarly,
 };
 ghost use Rattle.emu_system.specs.Gained.{Gains};
 ghost use Rattle.commands.specs.Promises.{
@@ -29,7 +29,7 @@ ghost use Rattle.commands.specs.Promises.{
   Loses,
   NamesNoFile,
 };
-ghost use Rattle.commands.specs.Whole.{InLine, Keeps};
+ghost use Rattle.commands.specs.Whole.{InLine, HasAllPut};
 ghost use Rattle.svemu_call.specs.Headline.{IsQuiet, Completes};
 
 use command_lines::Ending;
@@ -113,22 +113,22 @@ pub fn svemu<F: Images, I: Source, O: Sink, E: Sink>(
 
     // Where memory was wanting, nothing was written, but under `sweep`, which may want it at each length; and nothing
     // was taken, but by what reads its input first: a sweep, and a session whose script goes back.
-    ensures memory_first { TakesLast (map string_bytes words.now)
+    ensures memory_first { TakesNothingEarly (map string_bytes words.now)
         (line (map string_bytes words.now)) (F.named files.old)
         → result ≡ Ending.OutOfMemory → input.new ≡ input.old }
     ensures memory_unwritten { sweeps (line (map string_bytes words.now)) ≡ false → result ≡ Ending.OutOfMemory
         → (output.new ≡ output.old) × (errors.new ≡ errors.old) }
 
     // What reads its input first ends with a fault of the input only while it is read: then nothing was written.
-    ensures read_unwritten { TakesFirst (map string_bytes words.now)
+    ensures read_unwritten { ReadsInputFirst (map string_bytes words.now)
         (line (map string_bytes words.now)) (F.named files.old)
         → result ≡ Ending.ReadFault → (output.new ≡ output.old) × (errors.new ≡ errors.old) }
 
     // Where a stream failed, and the line doesn't read its input first: the output and the errors, where they didn't
     // fail, have all that the program, and a session, had put by then.
     ensures whole { IfSome (F.named files.old) (λ named. takes_input (line (map string_bytes words.now)) ≡ true
-        → reads_first (map string_bytes words.now) named (line (map string_bytes words.now)) ≡ false
-        → Keeps (InLine (map string_bytes words.now) named (line (map string_bytes words.now))
+        → reads_input_first (map string_bytes words.now) named (line (map string_bytes words.now)) ≡ false
+        → HasAllPut (InLine (map string_bytes words.now) named (line (map string_bytes words.now))
         result (I.left input.new))
         (result_of (map string_bytes words.now) named) result (I.left input.old)
         (O.held output.old) (O.held output.new) (E.held errors.old) (E.held errors.new)) }

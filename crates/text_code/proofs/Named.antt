@@ -7,7 +7,7 @@ use Rattle.text_model.specs.declared.slots.Item.{Item}
 use Rattle.text_model.specs.declared.slots.Refusal.{Refusal}
 use Rattle.text_model.specs.declared.slots.Refusal.TheVariants.{UnknownName, BadOperands, OutOfRange}
 use Rattle.text_model.specs.Slots.{places, joined, value_in, items_in, fits, all_fit}
-use Rattle.text_model.specs.Reading.{Pattern, Read, Operands, is_left_out, item_for, items_behind, filled, same_classes, same_values, is_canonical, all_canonical, word_told, has_target, judged, items_to_read, later, best, reads}
+use Rattle.text_model.specs.Reading.{Pattern, Read, Operands, is_left_out, item_for, items_behind, filled, same_classes, same_values, is_canonical, all_canonical, word_told, has_target, judged, items_to_read, later_refusal, best, reads}
 use Rattle.text_model.specs.Statement.{untargeted}
 use Rattle.text_code.specs.Judging.{verdict, are_shown, answer_to}
 use Rattle.text_code.specs.Reads.{with_name, all_sound, answer_named, reads_named, asked_of}
@@ -20,12 +20,12 @@ no_worse (Err UnknownName) = refl
 no_worse (Err BadOperands) = refl
 no_worse (Err OutOfRange) = refl
 
-unknown_first : (c : Refusal) → later UnknownName (later UnknownName c) ≡ later (later UnknownName UnknownName) c
+unknown_first : (c : Refusal) → later_refusal UnknownName (later_refusal UnknownName c) ≡ later_refusal (later_refusal UnknownName UnknownName) c
 unknown_first UnknownName = refl
 unknown_first BadOperands = refl
 unknown_first OutOfRange = refl
 
-last_stays : (b c : Refusal) → later OutOfRange (later b c) ≡ later (later OutOfRange b) c
+last_stays : (b c : Refusal) → later_refusal OutOfRange (later_refusal b c) ≡ later_refusal (later_refusal OutOfRange b) c
 last_stays UnknownName UnknownName = refl
 last_stays UnknownName BadOperands = refl
 last_stays UnknownName OutOfRange = refl
@@ -36,7 +36,7 @@ last_stays OutOfRange UnknownName = refl
 last_stays OutOfRange BadOperands = refl
 last_stays OutOfRange OutOfRange = refl
 
-later_both : (a b c : Refusal) → later a (later b c) ≡ later (later a b) c
+later_both : (a b c : Refusal) → later_refusal a (later_refusal b c) ≡ later_refusal (later_refusal a b) c
 later_both UnknownName UnknownName c = unknown_first c
 later_both UnknownName BadOperands UnknownName = refl
 later_both UnknownName BadOperands BadOperands = refl
@@ -55,7 +55,7 @@ later_both BadOperands OutOfRange BadOperands = refl
 later_both BadOperands OutOfRange OutOfRange = refl
 later_both OutOfRange b c = last_stays b c
 
-pub both_refused : (a b : Refusal) (x : Result Read Refusal) → best (Err a) (best (Err b) x) ≡ best (Err (later a b)) x
+pub both_refused : (a b : Refusal) (x : Result Read Refusal) → best (Err a) (best (Err b) x) ≡ best (Err (later_refusal a b)) x
 both_refused a b (Ok r) = refl
 both_refused a b (Err c) = ap (λ (e : Refusal). Err e) (later_both a b c)
 

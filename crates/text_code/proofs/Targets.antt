@@ -4,7 +4,7 @@ use Rattle.emu_bits.specs.Rows.{Place}
 use Rattle.text_model.specs.declared.slots.Kind.{Kind}
 use Rattle.text_model.specs.declared.slots.Kind.TheVariants.{Fixed, Plain, Stack, After, NamedCount, UnnamedCount, Scaled, Falling, Signed, Target, Bitmask, Spread, LeftShift, Inverted}
 use Rattle.text_model.specs.declared.slots.Slot.{Slot}
-use Rattle.text_model.specs.Slots.{places, bits_in, shown}
+use Rattle.text_model.specs.Slots.{places, bits_in, shown_number}
 use Rattle.text_model.specs.Text.{printed}
 use Rattle.text_model.specs.Aim.{Reach, reach_or}
 use Rattle.text_code.specs.Aims.{is_sound_reach}
@@ -21,7 +21,7 @@ target_sound s by page e h =
 abbrev pub IsNoTarget : Kind → Type 0
 IsNoTarget k = (by page : ℕ) → k ≡ Target by page → ⊥
 
-pub printed_as_shown : (k : Kind) (b v pc : ℕ) → IsNoTarget k → shown k b v ≡ printed k b v pc
+pub printed_as_shown : (k : Kind) (b v pc : ℕ) → IsNoTarget k → shown_number k b v ≡ printed k b v pc
 printed_as_shown (Fixed x) b v pc isnt = refl
 printed_as_shown Plain b v pc isnt = refl
 printed_as_shown Stack b v pc isnt = refl

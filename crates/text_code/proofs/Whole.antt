@@ -9,7 +9,7 @@ use Rattle.text_model.specs.declared.slots.Item.{Item}
 use Rattle.text_model.specs.declared.slots.Slot.{Slot}
 use Rattle.text_model.specs.declared.slots.Refusal.{Refusal}
 use Rattle.text_model.specs.declared.slots.Refusal.TheVariants.{UnknownName, BadOperands, OutOfRange}
-use Rattle.text_model.specs.Reading.{Pattern, Read, Operands, has_target, later, best}
+use Rattle.text_model.specs.Reading.{Pattern, Read, Operands, has_target, later_refusal, best}
 use Rattle.text_model.specs.Statement.{items_of, untargeted, is_label, last_of, ends_in_label, to_label, to_address, destination, last_target, with_target, lowered, operands_of, reads_tokens}
 use Rattle.text_model.specs.Writing.{flat}
 use Rattle.asm_tokens.specs.declared.token.Token.{Token}
@@ -78,7 +78,7 @@ by_answer in_table p o ss ts aimed r es et ea er =
 -- ---- the patterns at some spots, one after the other
 
 pub then_refused : (in_table : ℕ → Bool) (p : Pattern) (ps : List Pattern) (o : Operands) (a b : Refusal) → Err b ≡ answer_named in_table p o
-    → best (Err a) (reads_named in_table (p ∷ ps) o) ≡ best (Err (later a b)) (reads_named in_table ps o)
+    → best (Err a) (reads_named in_table (p ∷ ps) o) ≡ best (Err (later_refusal a b)) (reads_named in_table ps o)
 then_refused in_table p ps o a b e = ap (λ (x : Result Read Refusal). best (Err a) (best x (reads_named in_table ps o))) (sym e) ∙ both_refused a b (reads_named in_table ps o)
 
 pub then_read : (in_table : ℕ → Bool) (p : Pattern) (ps : List Pattern) (o : Operands) (a : Refusal) (r : Read) → Ok r ≡ answer_named in_table p o

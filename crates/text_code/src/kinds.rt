@@ -2,8 +2,8 @@
 ghost use Rattle.std.specs.Prelude.{◌≡◌, ◌<◌, ◌≤◌, ◌^◌, ◌||◌, ◌==◌, true, false, pos, neg_ℤ};
 ghost use Rattle.text_model.specs.declared.slots.Kind.TheVariants.{Signed, LeftShift, Bitmask};
 ghost use Rattle.text_model.specs.Masks.{bitmask_at, bitmask_fields as fields_of_bitmask};
-ghost use Rattle.text_model.specs.Slots.{shown, spread, inverse, can_show, is_named};
-ghost use Rattle.text_model.specs.Told.{told_of, told, gathered};
+ghost use Rattle.text_model.specs.Slots.{shown_number, spread, inverse, can_show, is_named};
+ghost use Rattle.text_model.specs.Told.{told_of, told_number, gathered};
 ghost use Rattle.text_model.specs.Reading.{is_canonical};
 ghost use Rattle.text_code.specs.Sound.{is_sound_kind};
 
@@ -92,7 +92,7 @@ fn signed(bits: u32, v: u64, by: u16) -> i128
     requires some { 0 < bits }
     requires narrow { bits ≤ 32 }
     requires small { v < 2 ^ bits }
-    ensures { result ≡ shown (Signed by) bits v }
+    ensures { result ≡ shown_number (Signed by) bits v }
 {
     let by = u128::from(by);
     if v < 1 << (bits - 1) {
@@ -108,7 +108,7 @@ pub fn shown(kind: Kind, bits: u32, v: u64) -> i128
     requires sound { is_sound_kind kind bits ≡ true }
     requires narrow { bits ≤ 32 }
     requires small { v < 2 ^ bits }
-    ensures { result ≡ shown kind bits v }
+    ensures { result ≡ shown_number kind bits v }
 {
     let wide = u128::from(v);
     match kind {
@@ -175,7 +175,7 @@ fn told_of(kind: Kind, bits: u32, negative: bool, size: u128) -> u128
 pub fn told(kind: Kind, bits: u32, value: i128) -> u128
     requires sound { is_sound_kind kind bits ≡ true }
     requires narrow { bits ≤ 32 }
-    ensures { result ≡ told kind bits value }
+    ensures { result ≡ told_number kind bits value }
 {
     told_of(kind, bits, value < 0, value.unsigned_abs())
 }

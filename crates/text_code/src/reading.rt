@@ -18,7 +18,7 @@ ghost use Rattle.std.specs.Prelude.{
   length,
 };
 ghost use Rattle.asm_tokens.specs.Tokens.{tokens};
-ghost use Rattle.text_model.specs.Reading.{Pattern as TablePattern, later};
+ghost use Rattle.text_model.specs.Reading.{Pattern as TablePattern, later_refusal};
 ghost use Rattle.text_model.specs.Statement.{is_address, untargeted, lowered, reads_tokens};
 ghost use Rattle.text_model.specs.Writing.{flat};
 ghost use Rattle.text_code.specs.Tables.{pattern_of, patterns_of};
@@ -131,7 +131,7 @@ fn pattern_at<T: Table>(table: &T, spot: Spot) -> &'static Pattern
 
 /// The refusal that stands later.
 fn later(a: Refusal, b: Refusal) -> Refusal
-    ensures { result ≡ later a b }
+    ensures { result ≡ later_refusal a b }
 {
     match (a, b) {
         (Refusal::UnknownName, _) => b,

@@ -10,8 +10,8 @@ use Rattle.emu_bits.proofs.AllBelow.{all_below, each_below}
 use Rattle.text_model.specs.declared.slots.Kind.{Kind}
 use Rattle.text_model.specs.declared.slots.Kind.TheVariants.{Fixed, Plain, Stack, After, NamedCount, UnnamedCount, Scaled, Falling, Signed, Target, Bitmask, Spread, LeftShift, Inverted}
 use Rattle.text_model.specs.Masks.{bitmask_at}
-use Rattle.text_model.specs.Slots.{shown, is_low, inverse, spread}
-use Rattle.text_model.specs.Told.{told_of, told, gathered}
+use Rattle.text_model.specs.Slots.{shown_number, is_low, inverse, spread}
+use Rattle.text_model.specs.Told.{told_of, told_number, gathered}
 use Rattle.text_model.specs.Reading.{element_size, is_canonical}
 use Rattle.text_model.proofs.MaskLaws.{mask_told}
 use Rattle.text_model.proofs.Tests.{is_good_kind}
@@ -51,9 +51,9 @@ minus_size (suc m) = refl
 product_some : (m n : ℕ) → 0 < n → 0 < m → 0 < n * m
 product_some m n h k = let p : 0 * m < n * m = mul-lt-mul_of_pos_right h k in omega (arith, p)
 
-signed_told : (v n b : ℕ) → 0 < n → v < 2 ^ b → told (Signed n) b (shown (Signed n) b v) ≡ v
+signed_told : (v n b : ℕ) → 0 < n → v < 2 ^ b → told_number (Signed n) b (shown_number (Signed n) b v) ≡ v
 signed_told v n b h l =
-    let f = λ (z : ℤ). told (Signed n) b z in
+    let f = λ (z : ℤ). told_number (Signed n) b z in
     let g = λ (t : Bool). f (if t then pos (n * v) else neg_ℤ (pos (n * (2 ^ b - v)))) in
     elim (cases_Bool (is_low b v)) [
       | inl e ↦ (let q : n * v ≡ v * n = grind arith in
@@ -78,7 +78,7 @@ given : (o : Option ℕ) → is_some o ≡ true → o ≡ Some (unwrap_or o 0)
 given None h = absurd (false≢true h)
 given (Some x) h = refl
 
-masks_told : (w v : ℕ) → (w == 64 || w == 32) ≡ true → v < 8192 → is_canonical (Bitmask w) v ≡ true → told (Bitmask w) 13 (shown (Bitmask w) 13 v) ≡ v
+masks_told : (w v : ℕ) → (w == 64 || w == 32) ≡ true → v < 8192 → is_canonical (Bitmask w) v ≡ true → told_number (Bitmask w) 13 (shown_number (Bitmask w) 13 v) ≡ v
 masks_told w v g h c =
     let m : ℕ = unwrap_or (bitmask_at w v) 0 in
     mask_told w v m g h (given (bitmask_at w v) (and_parts (is_some (bitmask_at w v)) (nat_lt (v / 64 % 64) (element_size v)) c).0) c
@@ -89,7 +89,7 @@ masks_told w v g h c =
 pub of_bits : (v b n : ℕ) → v < 2 ^ b → (b == n) ≡ true → v < 2 ^ n
 of_bits v b n h e = subst (λ (x : ℕ). v < 2 ^ x) (eqb-true b n e) h
 
-pub kind_law : (k : Kind) (b v : ℕ) → v < 2 ^ b → is_good_kind k b ≡ true → is_canonical k v ≡ true → is_unaimed k v ≡ true → told k b (shown k b v) ≡ v
+pub kind_law : (k : Kind) (b v : ℕ) → v < 2 ^ b → is_good_kind k b ≡ true → is_canonical k v ≡ true → is_unaimed k v ≡ true → told_number k b (shown_number k b v) ≡ v
 kind_law (Fixed x) b v h g c u = let l : v < 2 ^ 0 = of_bits v b 0 h g in omega (arith, l)
 kind_law Plain b v h g c u = refl
 kind_law Stack b v h g c u = stack_told v (of_bits v b 5 h g)

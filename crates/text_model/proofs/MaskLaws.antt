@@ -7,7 +7,7 @@ use Rattle.std.proofs.Math.Nat.{mod-eq_of_lt}
 use Rattle.std.specs.Prelude.{is_some, unwrap_or, find}
 use Rattle.std.specs.Option.{option_map_or}
 use Rattle.std.specs.List.{range_with_len}
-use Rattle.emu_bits.specs.Bitmask.{bitmask_of, with_elements, element_log, is_refused, rotated, repeated}
+use Rattle.emu_bits.specs.Bitmask.{bitmask_of, with_elements, element_log, has_no_value, rotated, repeated}
 use Rattle.emu_bits.proofs.AllBelow.{all_below, each_below}
 use Rattle.text_model.specs.declared.slots.Kind.TheVariants.{Bitmask}
 use Rattle.text_model.specs.Masks.{bitmask_at, bitmask_fields}
@@ -41,7 +41,7 @@ mod_mod r m h = mod-eq_of_lt (omega arith)
 same_elements : (w n r s : ℕ) (o : Option ℕ) → with_elements w n (r % 2 ^ unwrap_or o 0) s o ≡ with_elements w n r s o
 same_elements w n r s None = refl
 same_elements w n r s (Some h) =
-    ap (λ (x : ℕ). cond (is_refused w n s h) None (Some (repeated (2 ^ h) (rotated (2 ^ h) (2 ^ (s % 2 ^ h + 1) - 1) x) (w / 2 ^ h)))) (mod_mod r (2 ^ h) (pow_pos h))
+    ap (λ (x : ℕ). cond (has_no_value w n s h) None (Some (repeated (2 ^ h) (rotated (2 ^ h) (2 ^ (s % 2 ^ h + 1) - 1) x) (w / 2 ^ h)))) (mod_mod r (2 ^ h) (pow_pos h))
 
 pub same_mask : (w n r s : ℕ) → bitmask_of w n (r % size n s) s ≡ bitmask_of w n r s
 unfolding bitmask_of

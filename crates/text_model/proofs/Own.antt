@@ -20,8 +20,8 @@ use Rattle.text_model.specs.declared.slots.Slot.{Slot}
 use Rattle.text_model.specs.declared.slots.Item.{Item}
 use Rattle.text_model.specs.declared.slots.Refusal.TheVariants.{BadOperands, OutOfRange}
 use Rattle.text_model.specs.ClassNumbers.{class_number}
-use Rattle.text_model.specs.Slots.{place_of, places, at_place, bits_in, joined, classes_of, class_at, class_in, shown, value_in, item_in, items_in, has_class, can_show, fits, all_fit}
-use Rattle.text_model.specs.Told.{Binding, class_tells, index_of, told, parted, codec_tells, slot_tells, Built, built}
+use Rattle.text_model.specs.Slots.{place_of, places, at_place, bits_in, joined, classes_of, class_at, class_in, shown_number, value_in, item_in, items_in, has_class, can_show, fits, all_fit}
+use Rattle.text_model.specs.Told.{Binding, class_tells, index_of, told_number, parted, codec_tells, slot_tells, Built, built}
 use Rattle.text_model.specs.Reading.{Pattern, is_left_out, raised, item_for, items_behind, filled, same_classes, same_values, is_canonical, all_canonical, word_told, has_target, judged}
 use Rattle.text_model.specs.Text.{class_places, slot_places, told_bits, shows}
 use Rattle.text_model.proofs.Tests.{is_good_shape, is_good_kind, is_good_need, is_good_style, is_good, are_good, all_places, is_readable}
@@ -102,7 +102,7 @@ parts_told (p ∷ ps) v = ap (λ (x : List Place). p ∷ x) (parts_told ps v)
 slot_told : (s : Slot) (i : Item) → places_of (slot_tells s i) ≡ slot_places s
 slot_told s i =
     places_append (class_tells s.shape i.class) (codec_tells s.codec i.value)
-    ∙ ap₂ (λ (x y : List Place). x ++ y) (class_told s.shape i.class) (parts_told (places s.codec.parts) (told s.codec.kind (bits_in (places s.codec.parts)) i.value))
+    ∙ ap₂ (λ (x y : List Place). x ++ y) (class_told s.shape i.class) (parts_told (places s.codec.parts) (told_number s.codec.kind (bits_in (places s.codec.parts)) i.value))
 
 masked_both : (ps qs : List Place) (m : ℕ) → masked m (ps ++ qs) ≡ masked (masked m ps) qs
 masked_both [] qs m = refl
@@ -136,7 +136,7 @@ not_raised : (w m : ℕ) (c : Class) → raised (Hexadecimal w) (record { class 
 not_raised w m c =
     ap (λ (b : Bool). if b && nat_le m (2 ^ (w - 1)) then record { class = c; value = pos m +ℤ pos (2 ^ w) } else record { class = c; value = pos m }) (not_negative m)
 
-itself : (y : Style) (k : Kind) (c : Class) (b v : ℕ) → is_good_style y k ≡ true → raised y (record { class = c; value = shown k b v }) ≡ record { class = c; value = shown k b v }
+itself : (y : Style) (k : Kind) (c : Class) (b v : ℕ) → is_good_style y k ≡ true → raised y (record { class = c; value = shown_number k b v }) ≡ record { class = c; value = shown_number k b v }
 itself Word k c b v h = refl
 itself Counted k c b v h = refl
 itself Bare k c b v h = refl

@@ -13,7 +13,7 @@ use Rattle.text_model.specs.declared.slots.Kind.{Kind}
 use Rattle.text_model.specs.declared.slots.Kind.TheVariants.{Target}
 use Rattle.text_model.specs.declared.slots.Slot.{Slot}
 use Rattle.text_model.specs.declared.slots.Item.{Item}
-use Rattle.text_model.specs.Slots.{place_of, places, at_place, bits_in, joined, class_at, is_picked, class_in, shown, target_address, item_in, items_in, has_class, can_show, fits, all_fit}
+use Rattle.text_model.specs.Slots.{place_of, places, at_place, bits_in, joined, class_at, is_picked, class_in, shown_number, target_address, item_in, items_in, has_class, can_show, fits, all_fit}
 use Rattle.text_model.specs.Reading.{Pattern, is_canonical, all_canonical, is_target, has_target}
 use Rattle.text_model.specs.Text.{told_bits, shows, printed, printed_item}
 use Rattle.text_model.specs.Words.{item}
@@ -161,11 +161,11 @@ abbrev pub printed_items : List Slot → ℕ → ℕ → List Item
 printed_items [] w pc = []
 printed_items (s ∷ ss) w pc = printed_item s w pc ∷ printed_items ss w pc
 
-plain_printed : (k : Kind) (b v pc : ℕ) → is_target k ≡ false → printed k b v pc ≡ shown k b v
+plain_printed : (k : Kind) (b v pc : ℕ) → is_target k ≡ false → printed k b v pc ≡ shown_number k b v
 plain_printed (Target n g) b v pc h = absurd (true≢false h)
 plain_printed k b v pc h = refl
 
-target_zero : (k : Kind) (b v : ℕ) → is_target k ≡ true → shown k b v ≡ pos 0
+target_zero : (k : Kind) (b v : ℕ) → is_target k ≡ true → shown_number k b v ≡ pos 0
 target_zero (Target n g) b v h = refl
 target_zero k b v h = absurd (false≢true h)
 
@@ -174,7 +174,7 @@ module _ (w m pc : ℕ) where
   plain_item s e l =
       let n = same w m s e l in
       let b : ℕ = bits_in (places s.codec.parts) in
-      ap₂ (λ (c : Class) (x : ℤ). item c x) n.class (plain_printed s.codec.kind b (joined (places s.codec.parts) w) pc e ∙ ap (shown s.codec.kind b) n.value)
+      ap₂ (λ (c : Class) (x : ℤ). item c x) n.class (plain_printed s.codec.kind b (joined (places s.codec.parts) w) pc e ∙ ap (shown_number s.codec.kind b) n.value)
 
   no_targets : (s : Slot) (ss : List Slot) → has_target (s ∷ ss) ≡ false → (is_target s.codec.kind ≡ false) × (has_target ss ≡ false)
   no_targets s ss h = or_parts (is_target s.codec.kind) (has_target ss) h

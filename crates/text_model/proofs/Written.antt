@@ -16,7 +16,7 @@ use Rattle.text_model.specs.declared.slots.Style.TheVariants.{Word, Counted, Bar
 use Rattle.text_model.specs.declared.slots.Slot.{Slot}
 use Rattle.text_model.specs.declared.slots.Item.{Item}
 use Rattle.text_model.specs.ClassNumbers.{class_number}
-use Rattle.text_model.specs.Slots.{place_of, places, at_place, bits_in, joined, classes_of, class_at, class_in, is_low, inverse, shown, is_named, has_class, can_show, fits}
+use Rattle.text_model.specs.Slots.{place_of, places, at_place, bits_in, joined, classes_of, class_at, class_in, is_low, inverse, shown_number, is_named, has_class, can_show, fits}
 use Rattle.text_model.specs.Words.{item, word_item, spelled}
 use Rattle.std.specs.Fmt.{decimal}
 use Rattle.text_model.specs.Text.{hexadecimal, item_tokens, printed, printed_item}
@@ -122,7 +122,7 @@ minus_can s (suc m) h k = (h, k)
 product_small : (v w n : ℕ) → v ≤ w → n * w < 2 ^ 64 → n * v < 2 ^ 64
 product_small v w n h k = let p : n * v ≤ n * w = grind arith in omega (arith, p, k)
 
-signed_can : (s : Style) (n b v : ℕ) → v < 2 ^ b → n * 2 ^ b < 2 ^ 64 → is_counted s ≡ true → CanWrite s (shown (Signed n) b v)
+signed_can : (s : Style) (n b v : ℕ) → v < 2 ^ b → n * 2 ^ b < 2 ^ 64 → is_counted s ≡ true → CanWrite s (shown_number (Signed n) b v)
 signed_can s n b v h l k =
     let P = λ (t : Bool). CanWrite s (if t then pos (n * v) else neg_ℤ (pos (n * (2 ^ b - v)))) in
     elim (cases_Bool (is_low b v)) [

@@ -143,14 +143,14 @@ rank UnknownName = 0
 rank BadOperands = 1
 rank OutOfRange = 2
 
-abbrev pub later : Refusal → Refusal → Refusal
-later a b = if nat_lt (rank a) (rank b) then b else a
+abbrev pub later_refusal : Refusal → Refusal → Refusal
+later_refusal a b = if nat_lt (rank a) (rank b) then b else a
 
 -- the first word, or else the refusal that stands later
 abbrev pub best : Result Read Refusal → Result Read Refusal → Result Read Refusal
 best (Ok r) y = Ok r
 best (Err a) (Ok r) = Ok r
-best (Err a) (Err b) = Err (later a b)
+best (Err a) (Err b) = Err (later_refusal a b)
 
 -- What the patterns of a table make of a statement.
 abbrev pub reads : (ℕ → Bool) → List Pattern → List ℕ → Operands → Result Read Refusal

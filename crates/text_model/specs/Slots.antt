@@ -90,21 +90,21 @@ inverse c = if c % 2 == 0 then c + 1 else c - 1
 
 -- What a slot shows of the number v of b bits: a number, or which one of its class a register or another word is. Of a
 -- target it shows 0: the address depends on the instruction's.
-abbrev pub shown : Kind → ℕ → ℕ → ℤ
-shown (Fixed x) b v = pos x
-shown Plain b v = pos v
-shown Stack b v = pos (if v == 31 then 32 else v)
-shown (After k) b v = pos ((v + k) % 32)
-shown NamedCount b v = pos v
-shown UnnamedCount b v = pos v
-shown (Scaled n k) b v = pos (n * (v + k))
-shown Falling b v = pos (2 ^ b - v)
-shown (Signed n) b v = if is_low b v then pos (n * v) else neg_ℤ (pos (n * (2 ^ b - v)))
-shown (Target n g) b v = pos 0
-shown (Bitmask w) b v = pos (unwrap_or (bitmask_at w v) 0)
-shown Spread b v = pos (spread 8 v)
-shown (LeftShift w) b v = pos (w - 1 - v % 64)
-shown Inverted b v = pos (inverse v)
+abbrev pub shown_number : Kind → ℕ → ℕ → ℤ
+shown_number (Fixed x) b v = pos x
+shown_number Plain b v = pos v
+shown_number Stack b v = pos (if v == 31 then 32 else v)
+shown_number (After k) b v = pos ((v + k) % 32)
+shown_number NamedCount b v = pos v
+shown_number UnnamedCount b v = pos v
+shown_number (Scaled n k) b v = pos (n * (v + k))
+shown_number Falling b v = pos (2 ^ b - v)
+shown_number (Signed n) b v = if is_low b v then pos (n * v) else neg_ℤ (pos (n * (2 ^ b - v)))
+shown_number (Target n g) b v = pos 0
+shown_number (Bitmask w) b v = pos (unwrap_or (bitmask_at w v) 0)
+shown_number Spread b v = pos (spread 8 v)
+shown_number (LeftShift w) b v = pos (w - 1 - v % 64)
+shown_number Inverted b v = pos (inverse v)
 
 -- the address that a target of v, a number of b bits, is, where the instruction stands at pc: v is signed and counts n
 -- bytes, from pc rounded down to a multiple of g on
@@ -112,7 +112,7 @@ abbrev pub target_address : ℕ → ℕ → ℕ → ℕ → ℕ → ℕ
 target_address n g b v pc = (pc - pc % g + (if is_low b v then n * v else 2 ^ 64 - n * (2 ^ b - v))) % 2 ^ 64
 
 abbrev pub value_in : Codec → ℕ → ℤ
-value_in c w = shown c.kind (bits_in (places c.parts)) (joined (places c.parts) w)
+value_in c w = shown_number c.kind (bits_in (places c.parts)) (joined (places c.parts) w)
 
 -- ---- the item
 

@@ -15,7 +15,7 @@ use Rattle.text_model.specs.declared.slots.Style.{Style}
 use Rattle.text_model.specs.declared.slots.Style.TheVariants as style
 use Rattle.text_model.specs.declared.slots.Slot.{Slot}
 use Rattle.text_model.specs.declared.slots.Item.{Item}
-use Rattle.text_model.specs.Slots.{place_of, places, bits_in, joined, class_in, shown, target_address, all_fit}
+use Rattle.text_model.specs.Slots.{place_of, places, bits_in, joined, class_in, shown_number, target_address, all_fit}
 use Rattle.text_model.specs.Reading.{Pattern}
 use Rattle.text_model.specs.Words.{spelled}
 
@@ -38,7 +38,7 @@ item_tokens style.Address i = hexadecimal (unsigned_abs i.value) ∷ []
 -- the value that is printed: of a target its address, where the instruction stands at pc
 abbrev pub printed : Kind → ℕ → ℕ → ℕ → ℤ
 printed (Target n g) b v pc = pos (target_address n g b v pc)
-printed k b v pc = shown k b v
+printed k b v pc = shown_number k b v
 
 abbrev pub printed_item : Slot → ℕ → ℕ → Item
 printed_item s w pc =

@@ -52,8 +52,8 @@ told_of Spread b negative m = gathered 8 m
 told_of (LeftShift w) b negative m = (w - m) % w * 64 + (w - 1 - m)
 told_of Inverted b negative m = inverse m
 
-abbrev pub told : Kind → ℕ → ℤ → ℕ
-told k b z = told_of k b (is_negative z) (unsigned_abs z)
+abbrev pub told_number : Kind → ℕ → ℤ → ℕ
+told_number k b z = told_of k b (is_negative z) (unsigned_abs z)
 
 -- what each of some places has of a number, the first place its highest bits; of each value the low bits count, as many
 -- as the place has
@@ -62,7 +62,7 @@ parted [] v = []
 parted (p ∷ ps) v = record { place = p; value = v / 2 ^ bits_in ps } ∷ parted ps v
 
 abbrev pub codec_tells : Codec → ℤ → List Binding
-codec_tells c z = parted (places c.parts) (told c.kind (bits_in (places c.parts)) z)
+codec_tells c z = parted (places c.parts) (told_number c.kind (bits_in (places c.parts)) z)
 
 abbrev pub slot_tells : Slot → Item → List Binding
 slot_tells s i = class_tells s.shape i.class ++ codec_tells s.codec i.value

@@ -19,7 +19,7 @@ use Rattle.text_model.specs.declared.slots.Style.TheVariants.{Word, Counted, Bar
 use Rattle.text_model.specs.declared.slots.Slot.{Slot}
 use Rattle.text_model.specs.Classes.{same_class}
 use Rattle.text_model.specs.Masks.{bitmask_at}
-use Rattle.text_model.specs.Slots.{place_of, places, at_place, bits_in, joined, classes_of, class_in, is_low, spread, shown}
+use Rattle.text_model.specs.Slots.{place_of, places, at_place, bits_in, joined, classes_of, class_in, is_low, spread, shown_number}
 use Rattle.text_model.specs.Words as words
 use Rattle.text_model.specs.Words.{Family, dictionary, families, two_digits, spelled_word, spelled_in, spelled}
 use Rattle.text_model.specs.Text.{item_tokens, printed, printed_item}
@@ -103,7 +103,7 @@ shape_longest (Shown b g) w = longest_at (classes_of g) (at_place (place_of b) w
 product_small : (v w n : ℕ) → v ≤ w → n * w < 2 ^ 64 → n * v < 2 ^ 64
 product_small v w n h k = let p : n * v ≤ n * w = grind arith in omega (arith, p, k)
 
-signed_small : (n b v : ℕ) → v < 2 ^ b → n * 2 ^ b < 2 ^ 64 → unsigned_abs (shown (Signed n) b v) < 2 ^ 64
+signed_small : (n b v : ℕ) → v < 2 ^ b → n * 2 ^ b < 2 ^ 64 → unsigned_abs (shown_number (Signed n) b v) < 2 ^ 64
 signed_small n b v h l =
     let P = λ (t : Bool). unsigned_abs (if t then pos (n * v) else neg_ℤ (pos (n * (2 ^ b - v)))) < 2 ^ 64 in
     elim (cases_Bool (is_low b v)) [

@@ -16,8 +16,8 @@ use Rattle.tool_lines.specs.declared.line.ToolFault.{ToolFault}
 use Rattle.tool_lines.specs.declared.line.ToolWhy.{ToolWhy}
 use Rattle.tool_lines.specs.declared.line.ToolWhy.TheVariants.{NoCommand, UnknownCommand, UnknownOption, MissingValue, NoProgram}
 
-abbrev pub refused : {T : Type 0} → ToolWhy → ℕ → Result T ToolFault
-refused why place = Err (record { why = why; place = place })
+abbrev pub refusal_at : {T : Type 0} → ToolWhy → ℕ → Result T ToolFault
+refusal_at why place = Err (record { why = why; place = place })
 
 -- ---- options
 
@@ -73,7 +73,7 @@ with_place Help place seen = record seen { awaited = None }
 
 -- an option
 abbrev pub read_option : SeenWords → ℕ → Option ToolOption → Result SeenWords ToolFault
-read_option seen place None = refused UnknownOption place
+read_option seen place None = refusal_at UnknownOption place
 read_option seen place (Some Quiet) = Ok (record seen { quiet = true })
 read_option seen place (Some Help) = Ok (record seen { help = true })
 read_option seen place (Some Vl) = Ok (record seen { awaited = Some Vl })
@@ -109,7 +109,7 @@ read_words seen place (word ∷ words) = and_then (read_word seen place word) (�
 -- ---- behind them all
 
 abbrev pub run_of : SeenWords → ℕ → Option ℕ → Result ToolLine ToolFault
-run_of seen count None = refused NoProgram count
+run_of seen count None = refusal_at NoProgram count
 run_of seen count (Some program) = Ok (lines.Run (record {
   program = program;
   length = seen.length;
@@ -124,7 +124,7 @@ run_of seen count (Some program) = Ok (lines.Run (record {
 abbrev pub at_end : SeenWords → ℕ → Result ToolLine ToolFault
 at_end seen count =
     if seen.help then Ok lines.Help
-    else (if is_some seen.awaited then refused MissingValue (count - 1) else run_of seen count seen.program)
+    else (if is_some seen.awaited then refusal_at MissingValue (count - 1) else run_of seen count seen.program)
 
 -- ---- the whole line
 
@@ -137,10 +137,10 @@ line_of_command words name =
     else (if bytes_eq name (codes "trace") then Ok lines.Trace
     else (if bytes_eq name (codes "run")
     then and_then (read_words nothing_seen 1 (drop 1 words)) (λ seen. at_end seen (length words))
-    else refused UnknownCommand 0)))))
+    else refusal_at UnknownCommand 0)))))
 
 abbrev pub tool_line : List (List ℕ) → Result ToolLine ToolFault
-tool_line [] = refused NoCommand 0
+tool_line [] = refusal_at NoCommand 0
 tool_line (name ∷ words) = line_of_command (name ∷ words) name
 
 -- ---- the places of a line are those of words

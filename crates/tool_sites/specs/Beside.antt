@@ -12,7 +12,7 @@ use Rattle.tool_texts.specs.declared.accesses.Beside.TheVariants.{BelowSegment, 
 use Rattle.tool_texts.specs.declared.accesses.Beside.TheVariants.{BehindBreak}
 use Rattle.tool_sites.specs.Guards.{beside_guards}
 use Rattle.tool_sites.specs.Nearby.{behind_page, beside_mapping, follows, least_above, least_below, near_pages}
-use Rattle.tool_sites.specs.Sites.{nameless, near, shown_name}
+use Rattle.tool_sites.specs.Sites.{nameless, symbol_reach, shown_name}
 
 -- the address of the stack's lowest byte
 abbrev pub stack_low : ℕ
@@ -74,14 +74,14 @@ behind_by a (Some s) = a - s.address - (s.size - 1)
 abbrev pub behind_segment : List Symbol → ℕ → ℕ → Beside
 behind_segment symbols a count =
     let n = behind_by a (last_ending a symbols) in
-    if nat_lt 0 n && nat_le n near then BehindSymbol n else BehindSegment count
+    if nat_lt 0 n && nat_le n symbol_reach then BehindSymbol n else BehindSegment count
 
 -- next to a segment, or else by the numbers of pages to the nearest ones below and above, which are 0 where none is near
 abbrev pub beside_segments : List Symbol → List Segment → ℕ → ℕ → ℕ → Beside
 beside_segments symbols segments a below above =
-    if nat_lt 0 (end_below a segments) && nat_lt (a - end_below a segments) near
+    if nat_lt 0 (end_below a segments) && nat_lt (a - end_below a segments) symbol_reach
     then behind_segment symbols a (a - end_below a segments + 1)
-    else (if nat_le (start_above a segments - a) near
+    else (if nat_le (start_above a segments - a) symbol_reach
     then BelowSegment (start_above a segments - a) else beside_mapping a below above)
 
 -- the nearest page below is of the break: no segment is above, and the pages behind the last one follow it without a gap
@@ -98,8 +98,8 @@ beside_break symbols segments memory a below above =
 -- next to the stack, or else to other pages
 abbrev pub beside_stack : List Symbol → List Segment → Memory → ℕ → Beside
 beside_stack symbols segments memory a =
-    if nat_lt a stack_low && nat_le (stack_low - a) near then BelowStack (stack_low - a)
-    else (if nat_le stack_top a && nat_lt (a - stack_top) near then BehindStack (a - stack_top + 1)
+    if nat_lt a stack_low && nat_le (stack_low - a) symbol_reach then BelowStack (stack_low - a)
+    else (if nat_le stack_top a && nat_lt (a - stack_top) symbol_reach then BehindStack (a - stack_top + 1)
     else beside_break symbols segments memory a (least_below memory a near_pages) (least_above memory a near_pages))
 
 -- in no page that is mapped: next to a guarded buffer, or else to pages

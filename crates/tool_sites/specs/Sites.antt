@@ -18,8 +18,8 @@ abbrev pub shown_name : List ℕ → List ℕ
 shown_name name = if is_utf8 name && list_all is_shown name then name else []
 
 -- a symbol that is farther away isn't told: 1 MiB
-abbrev pub near : ℕ
-near = 1048576
+abbrev pub symbol_reach : ℕ
+symbol_reach = 1048576
 
 -- an address without a symbol
 abbrev pub nameless : ℕ → SeenPlace
@@ -29,7 +29,7 @@ nameless a = record { address = a; name = []; offset = 0 }
 abbrev pub place_by : ℕ → Option Symbol → SeenPlace
 place_by a None = nameless a
 place_by a (Some s) =
-    if nat_lt (a - s.address) near
+    if nat_lt (a - s.address) symbol_reach
     then record { address = a; name = shown_name s.name.now; offset = a - s.address } else nameless a
 
 -- an address by the symbol that reaches it

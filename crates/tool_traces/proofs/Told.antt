@@ -18,8 +18,8 @@ use Rattle.emu_report.proofs.Puts.{put_both, put_equal}
 use Rattle.emu_run.specs.Reports.{ending_line}
 use Rattle.emu_system.specs.Image.{Image, elf}
 use Rattle.emu_system.specs.declared.image.ElfFault.{ElfFault}
-use Rattle.step_traces.specs.Traces.{closing_line, is_left, last, lines, trace_text}
-use Rattle.trace_lines.specs.Lines.{IsPut}
+use Rattle.step_traces.specs.Traces.{closing_line, is_left, machine_left, lines_of_steps, trace_text}
+use Rattle.trace_lines.specs.Lines.{HasGained}
 use Rattle.trace_options.specs.declared.options.Given.{Given}
 use Rattle.trace_options.specs.declared.options.TraceFault.{TraceFault}
 use Rattle.trace_options.specs.declared.shown.Shown.{Shown}
@@ -70,28 +70,28 @@ pub end_told : (m : Parts) (left : Bool) → left ≡ false → ending_line m m.
 end_told m left is = ap (λ (b : Bool). if b then stopped_line m.steps m.core.pc else ending_line m m.ended) (sym is)
 
 pub text_told : (shown : Shown) (w : Window) (m now : Parts) (input : List ℕ) (budget : ℕ) (left : Bool) (old mid new : Option (List ℕ))
-    → IsPut old mid (lines shown w (first_stage w) m input (budget - m.steps)) → left ≡ is_left w (first_stage w) m input (budget - m.steps)
-    → now ≡ last w (first_stage w) m input (budget - m.steps) → IsPut mid new (closing_line left now) → IsPut old new (trace_text shown w m input budget)
+    → HasGained old mid (lines_of_steps shown w (first_stage w) m input (budget - m.steps)) → left ≡ is_left w (first_stage w) m input (budget - m.steps)
+    → now ≡ machine_left w (first_stage w) m input (budget - m.steps) → HasGained mid new (closing_line left now) → HasGained old new (trace_text shown w m input budget)
 text_told shown w m now input budget left old mid new put is at closing =
-    put_both old mid new (lines shown w (first_stage w) m input (budget - m.steps))
-    (closing_line (is_left w (first_stage w) m input (budget - m.steps)) (last w (first_stage w) m input (budget - m.steps))) put
+    put_both old mid new (lines_of_steps shown w (first_stage w) m input (budget - m.steps))
+    (closing_line (is_left w (first_stage w) m input (budget - m.steps)) (machine_left w (first_stage w) m input (budget - m.steps))) put
     (put_equal mid new (closing_line left now) _ (ap₂ (λ (b : Bool) (p : Parts). closing_line b p) is at) closing)
 
 -- of a machine that was opened, and another input of the same bytes
 pub opened_told : (shown : Shown) (w : Window) (m start : Parts) (input : List ℕ) (budget : ℕ) (old new : Option (List ℕ)) → m ≡ start
-    → IsPut old new (trace_text shown w m input budget) → IsPut old new (trace_text shown w start input budget)
-opened_told shown w m start input budget old new is put = subst (λ (p : Parts). IsPut old new (trace_text shown w p input budget)) is put
+    → HasGained old new (trace_text shown w m input budget) → HasGained old new (trace_text shown w start input budget)
+opened_told shown w m start input budget old new is put = subst (λ (p : Parts). HasGained old new (trace_text shown w p input budget)) is put
 
 -- over the input that was read
-pub input_told : (text : List ℕ → List ℕ) (given : List ℕ) (left after old new : Option (List ℕ)) → IfSome left (λ i. (given ≡ i) × (after ≡ Some [])) → IsPut old new (text given)
-    → IfSome left (λ i. IsPut old new (text i))
-input_told text given left after old new read put = IfSome_then left read (λ i r. subst (λ (x : List ℕ). IsPut old new (text x)) r.0 put)
+pub input_told : (text : List ℕ → List ℕ) (given : List ℕ) (left after old new : Option (List ℕ)) → IfSome left (λ i. (given ≡ i) × (after ≡ Some [])) → HasGained old new (text given)
+    → IfSome left (λ i. HasGained old new (text i))
+input_told text given left after old new read put = IfSome_then left read (λ i r. subst (λ (x : List ℕ). HasGained old new (text x)) r.0 put)
 
 -- ---- by the words
 
 module _ (words : List (List ℕ)) (left old new : Option (List ℕ)) where
   -- what was asked for
-  pub asked_told : (t : Traced) (asked : Asked) → IsAsked t.file words t.given asked → IfSome left (λ i. IsPut old new (trace_text asked.shown asked.window t.machine i t.budget))
+  pub asked_told : (t : Traced) (asked : Asked) → IsAsked t.file words t.given asked → IfSome left (λ i. HasGained old new (trace_text asked.shown asked.window t.machine i t.budget))
       → IfSome left (λ i. Traces words t i old new)
   asked_told t asked theirs put = IfSome_then left put (λ i p. record { asked = asked; theirs = theirs; is = p })
 

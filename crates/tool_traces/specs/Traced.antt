@@ -1,4 +1,5 @@
--- What `svemu-tool trace` writes, by the words of its line. `traced` and `SomeTraces`, at the end, are the whole of it.
+-- What `svemu-tool trace` writes, by the words of its line: `SomeTraces`, of the run that `traced` tells, is the whole
+-- of it.
 use Rattle.std.specs.Prelude.{◌≡◌, ◌≢◌, ℕ, List, MatchOption, Option, Some, None, Result, Ok, Err}
 use Rattle.command_lines.specs.Outcome.{Files, file_at, program_arguments}
 use Rattle.command_lines.specs.declared.ending.Ending.{Ending}
@@ -14,7 +15,7 @@ use Rattle.emu_system.specs.Image.{Image, elf}
 use Rattle.emu_system.specs.Start.{opening}
 use Rattle.emu_system.specs.declared.image.ElfFault.{ElfFault}
 use Rattle.step_traces.specs.Traces.{trace_text}
-use Rattle.trace_lines.specs.Lines.{IsPut}
+use Rattle.trace_lines.specs.Lines.{HasGained}
 use Rattle.trace_options.specs.declared.options.Given.{Given}
 use Rattle.trace_options.specs.declared.options.TraceFault.{TraceFault}
 use Rattle.trace_options.specs.declared.window.Window.{Window}
@@ -87,7 +88,7 @@ pub record IsAsked (file : List ℕ) (words : List (List ℕ)) (given : Given) (
 pub record Traces (words : List (List ℕ)) (t : Traced) (input : List ℕ) (old new : Option (List ℕ)) : Type 0 where
   pub asked : Asked
   pub theirs : IsAsked t.file words t.given asked
-  pub is : IsPut old new (trace_text asked.shown asked.window t.machine input t.budget)
+  pub is : HasGained old new (trace_text asked.shown asked.window t.machine input t.budget)
 
 -- all was written only where there is such a run
 abbrev pub SomeTraces : List (List ℕ) → Option Traced → List ℕ → Option (List ℕ) → Option (List ℕ) → Type 0

@@ -8,7 +8,7 @@ ghost use Rattle.emu_system.specs.ArgumentLimits.{AreArguments};
 ghost use Rattle.emu_system.specs.Start.{opening};
 ghost use Rattle.emu_machine.specs.Machines.{has_ended};
 ghost use Rattle.emu_run.specs.Reports.{ending_line};
-ghost use Rattle.trace_lines.specs.Lines.{IsPut};
+ghost use Rattle.trace_lines.specs.Lines.{HasGained};
 ghost use Rattle.step_traces.specs.Traces.{closing_line, trace_text};
 
 use crate::asked::Asked;
@@ -70,7 +70,7 @@ fn trace_machine<O: Sink>(
     requires going { has_ended machine.old ≡ false }
     requires whole { has_ended ahead.old ≡ false }
     requires same { ahead.old.parts ≡ machine.old.parts }
-    ensures bytes { OnOk result (IsPut (O.held output.old) (O.held output.new)
+    ensures bytes { OnOk result (HasGained (O.held output.old) (O.held output.new)
         (trace_text asked.now.shown asked.now.window machine.old.parts input.now budget)) }
     ensures cause { HasCause (O.faults output.old) (O.faults output.new) result }
 {
@@ -100,7 +100,7 @@ fn trace_input<O: Sink>(
 ) -> Ending
     requires loadable { IsLoadable bytes.now program.now.pages (seen_image image.now) }
     requires arguments { AreArguments (map string_bytes args.now) }
-    ensures done { result ≡ Ending.Done → IsPut (O.held output.old) (O.held output.new)
+    ensures done { result ≡ Ending.Done → HasGained (O.held output.old) (O.held output.new)
         (trace_text asked.now.shown asked.now.window (opening bytes.now (seen_image image.now)
         (map string_bytes args.now) program.now.length program.now.pages) input.now program.now.budget) }
     ensures write_cause { result ≡ Ending.WriteFault → Rose (O.faults output.old) (O.faults output.new) }
@@ -140,7 +140,7 @@ pub fn trace_image<I: Source, O: Sink, E: Sink>(
 ) -> Ending
     requires loadable { IsLoadable bytes.now program.now.pages (seen_image image.now) }
     requires arguments { AreArguments (map string_bytes args.now) }
-    ensures done { result ≡ Ending.Done → IfSome (I.left input.old) (λ i. IsPut (O.held output.old)
+    ensures done { result ≡ Ending.Done → IfSome (I.left input.old) (λ i. HasGained (O.held output.old)
         (O.held output.new) (trace_text asked.now.shown asked.now.window (opening bytes.now
         (seen_image image.now) (map string_bytes args.now) program.now.length program.now.pages) i
         program.now.budget)) }

@@ -17,8 +17,8 @@ use Rattle.emu_run.specs.Text.{hex, space, newline}
 use Rattle.trace_options.specs.declared.shown.Shown.{Shown}
 
 -- where a sink tells what it holds, it gained this text
-abbrev pub IsPut : Option (List ℕ) → Option (List ℕ) → List ℕ → Type 0
-IsPut old new text = IfSome old (λ had. new ≡ Some (had ++ text))
+abbrev pub HasGained : Option (List ℕ) → Option (List ℕ) → List ℕ → Type 0
+HasGained old new text = IfSome old (λ had. new ≡ Some (had ++ text))
 
 -- ---- the head
 
@@ -30,12 +30,12 @@ head_text steps pc word =
 -- ---- registers, which are told where they have changed
 
 -- ` | x3 0000000000000040`
-abbrev pub item : List ℕ → List ℕ → List ℕ
-item name value = ((codes " | " ++ name) ++ space) ++ value
+abbrev pub change_text : List ℕ → List ℕ → List ℕ
+change_text name value = ((codes " | " ++ name) ++ space) ++ value
 
 -- of 64 bits
 abbrev pub word_change : List ℕ → ℕ → ℕ → List ℕ
-word_change name old new = if nat_eq old new then [] else item name (hex 16 new)
+word_change name old new = if nat_eq old new then [] else change_text name (hex 16 new)
 
 abbrev pub x_change : Core → Core → ℕ → List ℕ
 x_change old new k = word_change (numbered (codes "x") k) (get_or old.x k 0) (get_or new.x k 0)
@@ -45,11 +45,11 @@ abbrev pub flag_number : Flags → ℕ
 flag_number f = 8 * bit f.n + 4 * bit f.z + 2 * bit f.c + bit f.v
 
 abbrev pub flags_change : Flags → Flags → List ℕ
-flags_change old new = if nat_eq (flag_number old) (flag_number new) then [] else item (codes "nzcv") (flag_digits new)
+flags_change old new = if nat_eq (flag_number old) (flag_number new) then [] else change_text (codes "nzcv") (flag_digits new)
 
 -- of the vector length in bits
 abbrev pub length_change : ℕ → ℕ → List ℕ
-length_change old new = if nat_eq old new then [] else item (codes "vl") (decimal new)
+length_change old new = if nat_eq old new then [] else change_text (codes "vl") (decimal new)
 
 -- x0 to x30, sp, nzcv and tpidr, as far as they are shown
 abbrev pub scalar_changes : Shown → Core → Core → List ℕ
@@ -79,13 +79,13 @@ abbrev pub is_same_ffr : Vectors → Vectors → Bool
 is_same_ffr old new = nat_eq old.bits new.bits && same_bits (new.bits / 8) old.ffr new.ffr
 
 abbrev pub z_change : Vectors → Vectors → ℕ → List ℕ
-z_change old new k = if is_same_z old new k then [] else item (numbered (codes "z") k) (byte_digits (get_or new.z k []))
+z_change old new k = if is_same_z old new k then [] else change_text (numbered (codes "z") k) (byte_digits (get_or new.z k []))
 
 abbrev pub p_change : Vectors → Vectors → ℕ → List ℕ
-p_change old new k = if is_same_p old new k then [] else item (numbered (codes "p") k) (bit_digits (get_or new.p k []))
+p_change old new k = if is_same_p old new k then [] else change_text (numbered (codes "p") k) (bit_digits (get_or new.p k []))
 
 abbrev pub ffr_change : Vectors → Vectors → List ℕ
-ffr_change old new = if is_same_ffr old new then [] else item (codes "ffr") (bit_digits new.ffr)
+ffr_change old new = if is_same_ffr old new then [] else change_text (codes "ffr") (bit_digits new.ffr)
 
 -- vl, z0 to z31, p0 to p15 and ffr, as far as they are shown
 abbrev pub vector_changes : Shown → Vectors → Vectors → List ℕ
@@ -122,8 +122,8 @@ access_texts old new accesses = flat_map (access_text old new) accesses
 
 -- ---- the line of a step between two machines, which made these accesses
 
-abbrev pub step_line : Shown → Parts → Parts → List Access → List ℕ
-step_line shown old new accesses =
+abbrev pub traced_line : Shown → Parts → Parts → List Access → List ℕ
+traced_line shown old new accesses =
     (((head_text old.steps old.core.pc (value old.memory old.core.pc 4)
     ++ scalar_changes shown old.core new.core)
     ++ vector_changes shown old.vectors new.vectors)

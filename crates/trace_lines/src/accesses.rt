@@ -2,7 +2,7 @@
 ghost use Rattle.std.specs.Prelude.{◌≡◌, ◌≤◌, ◌+◌, ◌*◌, ◌++◌, length, if◌then◌else◌, [], OnOk};
 ghost use Rattle.io_gate.specs.Pieces.{PutsAll};
 ghost use Rattle.io_gate.specs.Streams.{HasCause};
-ghost use Rattle.trace_lines.specs.Lines.{access_text, access_texts, byte_text, kind_text, value_text, IsPut};
+ghost use Rattle.trace_lines.specs.Lines.{access_text, access_texts, byte_text, kind_text, value_text, HasGained};
 
 use emu_report::Text;
 use guest_mem::{Access, Mem};
@@ -77,7 +77,7 @@ pub fn put_accesses<S: Sink>(
     new: &Mem,
     sink: &mut S,
 ) -> Result<(), Failed>
-    ensures bytes { OnOk result (IsPut (S.held sink.old) (S.held sink.new)
+    ensures bytes { OnOk result (HasGained (S.held sink.old) (S.held sink.new)
         (if told then access_texts old.now.memory new.now.memory accesses.now else [])) }
     ensures cause { HasCause (S.faults sink.old) (S.faults sink.new) result }
 {

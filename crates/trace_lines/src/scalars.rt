@@ -11,7 +11,7 @@ ghost use Rattle.trace_lines.specs.Lines.{
   scalar_changes,
   word_change,
   x_change,
-  IsPut,
+  HasGained,
 };
 
 use core_regs::Core;
@@ -40,7 +40,7 @@ fn put_x<S: Sink>(k: u32, old: &Core, new: &Core, sink: &mut S) -> Result<(), Fa
 
 /// Puts those of `x0` to `x30` that have changed, where they are told.
 fn put_xs<S: Sink>(told: bool, old: &Core, new: &Core, sink: &mut S) -> Result<(), Failed>
-    ensures bytes { OnOk result (IsPut (S.held sink.old) (S.held sink.new)
+    ensures bytes { OnOk result (HasGained (S.held sink.old) (S.held sink.new)
         (if told then lines_of 31 (x_change old.now new.now) else [])) }
     ensures cause { HasCause (S.faults sink.old) (S.faults sink.new) result }
 {
@@ -134,7 +134,7 @@ pub fn put_scalars<S: Sink>(
     new: &Core,
     sink: &mut S,
 ) -> Result<(), Failed>
-    ensures bytes { OnOk result (IsPut (S.held sink.old) (S.held sink.new)
+    ensures bytes { OnOk result (HasGained (S.held sink.old) (S.held sink.new)
         (scalar_changes shown.now old.now new.now)) }
     ensures cause { HasCause (S.faults sink.old) (S.faults sink.new) result }
 {

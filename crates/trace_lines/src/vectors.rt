@@ -15,7 +15,7 @@ ghost use Rattle.trace_lines.specs.Lines.{
   same_bytes,
   vector_changes,
   z_change,
-  IsPut,
+  HasGained,
 };
 
 use crate::scalars::put_length;
@@ -135,7 +135,7 @@ fn put_p<S: Sink>(k: u32, old: &VecRegs, new: &VecRegs, sink: &mut S) -> Result<
 
 /// Puts those of `z0` to `z31` that have changed, where they are told.
 fn put_zs<S: Sink>(told: bool, old: &VecRegs, new: &VecRegs, sink: &mut S) -> Result<(), Failed>
-    ensures bytes { OnOk result (IsPut (S.held sink.old) (S.held sink.new)
+    ensures bytes { OnOk result (HasGained (S.held sink.old) (S.held sink.new)
         (if told then lines_of 32 (z_change old.now new.now) else [])) }
     ensures cause { HasCause (S.faults sink.old) (S.faults sink.new) result }
 {
@@ -150,7 +150,7 @@ fn put_zs<S: Sink>(told: bool, old: &VecRegs, new: &VecRegs, sink: &mut S) -> Re
 
 /// Puts those of `p0` to `p15` that have changed, where they are told.
 fn put_ps<S: Sink>(told: bool, old: &VecRegs, new: &VecRegs, sink: &mut S) -> Result<(), Failed>
-    ensures bytes { OnOk result (IsPut (S.held sink.old) (S.held sink.new)
+    ensures bytes { OnOk result (HasGained (S.held sink.old) (S.held sink.new)
         (if told then lines_of 16 (p_change old.now new.now) else [])) }
     ensures cause { HasCause (S.faults sink.old) (S.faults sink.new) result }
 {
@@ -186,7 +186,7 @@ pub fn put_vectors<S: Sink>(
     new: &VecRegs,
     sink: &mut S,
 ) -> Result<(), Failed>
-    ensures bytes { OnOk result (IsPut (S.held sink.old) (S.held sink.new)
+    ensures bytes { OnOk result (HasGained (S.held sink.old) (S.held sink.new)
         (vector_changes shown.now old.now new.now)) }
     ensures cause { HasCause (S.faults sink.old) (S.faults sink.new) result }
 {

@@ -13,8 +13,8 @@ use Rattle.trace_options.specs.declared.options.TraceOption.TheVariants.{From, C
 use Rattle.trace_options.specs.declared.options.TraceWhy.{TraceWhy}
 use Rattle.trace_options.specs.declared.options.TraceWhy.TheVariants.{Repeated, MissingValue}
 
-abbrev pub refused : {T : Type 0} → TraceWhy → ℕ → Result T TraceFault
-refused why place = Err (record { why = why; place = place })
+abbrev pub refusal_at : {T : Type 0} → TraceWhy → ℕ → Result T TraceFault
+refusal_at why place = Err (record { why = why; place = place })
 
 -- the option that a word gives
 abbrev pub option_of : List ℕ → Option TraceOption
@@ -66,7 +66,7 @@ with_place In place given = record given { awaited = None; range = Some place }
 abbrev pub read_option : Given → ℕ → Option TraceOption → Result Given TraceFault
 read_option given place None = Ok given
 read_option given place (Some option) =
-    if is_some (place_of option given) then refused Repeated place else Ok (record given { awaited = Some option })
+    if is_some (place_of option given) then refusal_at Repeated place else Ok (record given { awaited = Some option })
 
 -- the value of an option that awaits it, `--`, or such a word
 abbrev pub read_next : Given → ℕ → List ℕ → Option TraceOption → Result Given TraceFault
@@ -88,7 +88,7 @@ read_words given place (word ∷ words) =
 
 -- an option that is the last word has no value
 abbrev pub at_end : Given → ℕ → Result Given TraceFault
-at_end given count = if is_some given.awaited then refused MissingValue (count - 1) else Ok given
+at_end given count = if is_some given.awaited then refusal_at MissingValue (count - 1) else Ok given
 
 abbrev pub trace_options : List (List ℕ) → Result Given TraceFault
 trace_options words = and_then (read_words nothing_given 1 (drop 1 words)) (λ given. at_end given (length words))

@@ -13,14 +13,14 @@ use Rattle.trace_options.specs.declared.options.TraceFault.{TraceFault}
 use Rattle.trace_options.specs.declared.options.TraceWhy.TheVariants.{BadNumber, CallAlone, UnknownPlace, UnknownSymbol}
 use Rattle.trace_options.specs.declared.window.Range.{Range}
 use Rattle.trace_options.specs.declared.window.Window.{Window}
-use Rattle.trace_options.specs.Options.{refused}
+use Rattle.trace_options.specs.Options.{refusal_at}
 
 -- ---- numbers
 
 -- the number of the word at a place, from `least` on
 abbrev pub known_number : ℕ → ℕ → Option ℕ → Result ℕ TraceFault
-known_number place least None = refused BadNumber place
-known_number place least (Some number) = if nat_le least number then Ok number else refused BadNumber place
+known_number place least None = refusal_at BadNumber place
+known_number place least (Some number) = if nat_le least number then Ok number else refusal_at BadNumber place
 
 -- what stands at a place, or where no place is given, another
 abbrev pub number_at : List (List ℕ) → Option ℕ → ℕ → ℕ → Result ℕ TraceFault
@@ -38,7 +38,7 @@ abbrev pub address_named : List Symbol → List ℕ → Option ℕ
 address_named symbols word = or_number word (address_of word symbols)
 
 abbrev pub known_address : ℕ → Option ℕ → Result (Option ℕ) TraceFault
-known_address place None = refused UnknownPlace place
+known_address place None = refusal_at UnknownPlace place
 known_address place (Some address) = Ok (Some address)
 
 abbrev pub address_at : List Symbol → List (List ℕ) → Option ℕ → Result (Option ℕ) TraceFault
@@ -48,7 +48,7 @@ address_at symbols words (Some place) = known_address place (address_named symbo
 -- arrivals are counted, from 1, where the first step has its address
 abbrev pub call_at : List (List ℕ) → Option ℕ → Option ℕ → Result ℕ TraceFault
 call_at words None from = Ok 1
-call_at words (Some place) None = refused CallAlone place
+call_at words (Some place) None = refusal_at CallAlone place
 call_at words (Some place) (Some address) = number_at words (Some place) 1 1
 
 -- ---- ranges
@@ -56,7 +56,7 @@ call_at words (Some place) (Some address) = number_at words (Some place) 1 1
 abbrev pub next_above : ℕ → List Symbol → Option ℕ
 next_above address symbols = option_map (λ s. s.address) (find (λ s. nat_lt address s.address) symbols)
 
--- up to the next symbol, or the last address
+-- up to the next symbol, or to the last address, at which no instruction can stand
 abbrev pub size_up_to : ℕ → Option ℕ → ℕ
 size_up_to address None = 2 ^ 64 - 1 - address
 size_up_to address (Some next) = next - address
@@ -69,7 +69,7 @@ range_of symbols s = record {
 }
 
 abbrev pub known_range : ℕ → List Symbol → Option Symbol → Result (Option Range) TraceFault
-known_range place symbols None = refused UnknownSymbol place
+known_range place symbols None = refusal_at UnknownSymbol place
 known_range place symbols (Some s) = Ok (Some (range_of symbols s))
 
 -- that of the first symbol of the name at a place

@@ -6,7 +6,7 @@ use Rattle.std.specs.Str.{bytes_eq}
 use Rattle.trace_options.specs.declared.options.TraceFault.{TraceFault}
 use Rattle.trace_options.specs.declared.options.TraceWhy.TheVariants.{UnknownGroup}
 use Rattle.trace_options.specs.declared.shown.Shown.{Shown}
-use Rattle.trace_options.specs.Options.{refused}
+use Rattle.trace_options.specs.Options.{refusal_at}
 
 abbrev pub everything : Shown
 everything = record {
@@ -60,7 +60,7 @@ abbrev pub is_comma : ℕ → Bool
 is_comma c = nat_eq c 44
 
 abbrev pub known : ℕ → Option Shown → Result Shown TraceFault
-known place None = refused UnknownGroup place
+known place None = refusal_at UnknownGroup place
 known place (Some shown) = Ok shown
 
 -- what the value of `--show` says, by its place; all where it isn't given

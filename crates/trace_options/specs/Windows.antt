@@ -17,9 +17,9 @@ ends_at None pc = false
 ends_at (Some a) pc = nat_eq a pc
 
 -- a step here is told
-abbrev pub is_within : Option Range → ℕ → Bool
-is_within None pc = true
-is_within (Some range) pc = nat_le range.start pc && nat_lt (pc - range.start) range.size
+abbrev pub is_in_range : Option Range → ℕ → Bool
+is_in_range None pc = true
+is_in_range (Some range) pc = nat_le range.start pc && nat_lt (pc - range.start) range.size
 
 -- it awaits the first step: the last of so many arrivals, none of which is before step `after`
 abbrev pub first_stage : Window → Stage

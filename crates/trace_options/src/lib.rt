@@ -12,4 +12,4 @@ pub use options::{Given, TraceFault, TraceOption, TraceWhy, trace_options};
 pub use places::window_of;
 pub use run_line::run_words;
 pub use shown::{Shown, shown_of};
-pub use window::{Range, Stage, Window, behind, is_over, is_within, stage_at};
+pub use window::{Range, Stage, Window, behind, is_in_range, is_over, stage_at};

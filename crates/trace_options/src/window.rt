@@ -1,6 +1,6 @@
 //! Which steps of a run are told.
 ghost use Rattle.std.specs.Prelude.{◌≡◌};
-ghost use Rattle.trace_options.specs.Windows.{behind, begins_at, ends_at, is_over, is_within, stage_at};
+ghost use Rattle.trace_options.specs.Windows.{behind, begins_at, ends_at, is_over, is_in_range, stage_at};
 
 /// So many bytes from an address on.
 #[derive(Clone, Copy, Debug, PartialEq, Eq)]
@@ -56,8 +56,8 @@ fn ends_at(until: Option<u64>, pc: u64) -> bool
 }
 
 /// Whether a step at an address is among those that are told.
-pub fn is_within(within: Option<Range>, pc: u64) -> bool
-    ensures { result ≡ is_within within pc }
+pub fn is_in_range(within: Option<Range>, pc: u64) -> bool
+    ensures { result ≡ is_in_range within pc }
 {
     match within {
         None => true,

@@ -6,7 +6,7 @@ use Rattle.asm_image.proofs.Pieces.{bytes_body}
 use Rattle.listing_model.specs.declared.directive.Directive.{Directive}
 use Rattle.listing_model.specs.declared.directive.Directive.TheVariants as directive
 use Rattle.listing_model.specs.declared.line.Body.TheVariants as body
-use Rattle.listing_model.specs.Layout.{filling, here}
+use Rattle.listing_model.specs.Layout.{padding, here}
 use Rattle.asm_image.proofs.placing.put_directive.Goals as goal
 
 pub returns-in-Ascii : goal.returns-in-Ascii
@@ -28,10 +28,10 @@ returns-in-Zero g c = λ l is.
 pub returns-in-Align : goal.returns-in-Align
 returns-in-Align g c = λ l is.
     let put = c.put_zeros-in-Align in
-    let count : c.from.result ≡ filling c.in-Align.to (here l) =
-    c.from.ensures ∙ c.filling_at.ensures ∙ ap (filling c.in-Align.to) (c.here.ensures.at ∙ same_place g.T.Instructions.has_target c.args.draft.now l is) in
+    let count : c.from.result ≡ padding c.in-Align.to (here l) =
+    c.from.ensures ∙ c.filling_at.ensures ∙ ap (padding c.in-Align.to) (c.here.ensures.at ∙ same_place g.T.Instructions.has_target c.args.draft.now l is) in
     subst (λ (d : Directive). IsPut g.T.Instructions.has_target put.result put.new.draft (with_body g.T.Instructions.statements c.args.line l (body.Directive d)))
     (sym c.in-Align.is)
     (bytes_body g.T.Instructions.has_target g.T.Instructions.statements c.args.line l (body.Directive (directive.Align c.in-Align.to))
-    (replicate (filling c.in-Align.to (here l)) 0) (replicate c.from.result 0) c.from.result c.args.draft.now put.new.draft put.result is refl refl refl refl
-    (ap (λ (n : ℕ). replicate n 0) count) (count ∙ sym (length-replicate (filling c.in-Align.to (here l)) 0)) put.ensures.ok put.ensures.full)
+    (replicate (padding c.in-Align.to (here l)) 0) (replicate c.from.result 0) c.from.result c.args.draft.now put.new.draft put.result is refl refl refl refl
+    (ap (λ (n : ℕ). replicate n 0) count) (count ∙ sym (length-replicate (padding c.in-Align.to (here l)) 0)) put.ensures.ok put.ensures.full)

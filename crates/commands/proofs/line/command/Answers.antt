@@ -8,9 +8,9 @@ use Rattle.command_lines.specs.declared.ending.Ending.TheVariants.{FileFault, Re
 use Rattle.emu_system.specs.Gained.{Gains}
 use Rattle.commands.specs.Promises.{NamesNoFile, is_failure, is_silent}
 use Rattle.commands.specs.Meets.{now, MeetsLine}
-use Rattle.commands.specs.Lines.{EndsMissing, MissesFirst, TakesFirst, TakesLast, may_end, names_file, takes_input, sweeps, reads_first}
+use Rattle.commands.specs.Lines.{EndsMissing, MissesFirst, ReadsInputFirst, TakesNothingEarly, may_end, names_file, takes_input, sweeps, reads_input_first}
 use Rattle.commands.proofs.Lines.{refused_gains, refused_line, refused_names_none, refused_puts, done_refuses, line_refuses}
-use Rattle.commands.specs.Whole.{InLine, Keeps}
+use Rattle.commands.specs.Whole.{InLine, HasAllPut}
 use Rattle.commands.proofs.NamedFiles.{told_so}
 use Rattle.commands.proofs.line.command.Goals as goal
 
@@ -108,7 +108,7 @@ returns-in-Ok-clause-refused_errors g c =
 
 pub returns-in-Ok-clause-memory_first : goal.returns-in-Ok-clause-memory_first
 returns-in-Ok-clause-memory_first g c =
-    subst (λ (r : Result Line WordsFault). TakesLast (map string_bytes c.args.words.now) r (g.F.Images.named c.args.files.now) → c.run_line.result ≡ OutOfMemory → c.run_line.new.input ≡ c.args.input.now)
+    subst (λ (r : Result Line WordsFault). TakesNothingEarly (map string_bytes c.args.words.now) r (g.F.Images.named c.args.files.now) → c.run_line.result ≡ OutOfMemory → c.run_line.new.input ≡ c.args.input.now)
     (sym c.in-Ok.is ∙ c.line_of_words-line.ensures.line) c.run_line.ensures.memory_first
 
 pub returns-in-Ok-clause-memory_unwritten : goal.returns-in-Ok-clause-memory_unwritten
@@ -118,16 +118,16 @@ returns-in-Ok-clause-memory_unwritten g c =
 
 pub returns-in-Ok-clause-read_unwritten : goal.returns-in-Ok-clause-read_unwritten
 returns-in-Ok-clause-read_unwritten g c =
-    subst (λ (r : Result Line WordsFault). TakesFirst (map string_bytes c.args.words.now) r (g.F.Images.named c.args.files.now) → c.run_line.result ≡ ReadFault → (c.run_line.new.output ≡ c.args.output.now) × (c.run_line.new.errors ≡ c.args.errors.now))
+    subst (λ (r : Result Line WordsFault). ReadsInputFirst (map string_bytes c.args.words.now) r (g.F.Images.named c.args.files.now) → c.run_line.result ≡ ReadFault → (c.run_line.new.output ≡ c.args.output.now) × (c.run_line.new.errors ≡ c.args.errors.now))
     (sym c.in-Ok.is ∙ c.line_of_words-line.ensures.line) c.run_line.ensures.read_unwritten
 
 pub returns-in-Err-clause-read_unwritten : goal.returns-in-Err-clause-read_unwritten
 returns-in-Err-clause-read_unwritten g c = λ first.
-    absurd (subst (λ (r : Result Line WordsFault). TakesFirst (map string_bytes c.args.words.now) r (g.F.Images.named c.args.files.now)) (sym (sym c.in-Err.is ∙ c.line_of_words-line.ensures.line)) first)
+    absurd (subst (λ (r : Result Line WordsFault). ReadsInputFirst (map string_bytes c.args.words.now) r (g.F.Images.named c.args.files.now)) (sym (sym c.in-Err.is ∙ c.line_of_words-line.ensures.line)) first)
 
 pub returns-in-Ok-clause-whole : goal.returns-in-Ok-clause-whole
 returns-in-Ok-clause-whole g c =
-    subst (λ (r : Result Line WordsFault). IfSome (g.F.Images.named c.args.files.now) (λ files. takes_input r ≡ true → reads_first (map string_bytes c.args.words.now) files r ≡ false → Keeps (InLine (map string_bytes c.args.words.now) files r c.run_line.result (g.I.Source.left c.run_line.new.input)) (λ input. outcome_of_line (map string_bytes c.args.words.now) files input r) c.run_line.result (g.I.Source.left c.args.input.now) (g.O.Sink.held c.args.output.now) (g.O.Sink.held c.run_line.new.output) (g.E.Sink.held c.args.errors.now) (g.E.Sink.held c.run_line.new.errors)))
+    subst (λ (r : Result Line WordsFault). IfSome (g.F.Images.named c.args.files.now) (λ files. takes_input r ≡ true → reads_input_first (map string_bytes c.args.words.now) files r ≡ false → HasAllPut (InLine (map string_bytes c.args.words.now) files r c.run_line.result (g.I.Source.left c.run_line.new.input)) (λ input. outcome_of_line (map string_bytes c.args.words.now) files input r) c.run_line.result (g.I.Source.left c.args.input.now) (g.O.Sink.held c.args.output.now) (g.O.Sink.held c.run_line.new.output) (g.E.Sink.held c.args.errors.now) (g.E.Sink.held c.run_line.new.errors)))
     (sym c.in-Ok.is ∙ c.line_of_words-line.ensures.line) c.run_line.ensures.whole
 
 pub returns-in-Err-clause-whole : goal.returns-in-Err-clause-whole

@@ -12,10 +12,10 @@ use Rattle.commands.specs.Meets.{now, MeetsLine}
 use Rattle.commands.specs.declared.program.Program.{Program}
 use Rattle.commands.specs.Programs.{outcome_over, debug_line_of, run_line_of, sweep_line_of, threads_line_of}
 use Rattle.commands.proofs.Lines.{cause_of_line, missing_of_line, names_none}
-use Rattle.commands.specs.Lines.{may_end, names_file, sweeps, takes_input, EndsMissing, MissesFirst, TakesFirst, TakesLast, reads_first}
+use Rattle.commands.specs.Lines.{may_end, names_file, sweeps, takes_input, EndsMissing, MissesFirst, ReadsInputFirst, TakesNothingEarly, reads_input_first}
 use Rattle.commands.proofs.NamedFiles.{told_so}
 use Rattle.std.proofs.lemmas.Option.{IfSome_then}
-use Rattle.commands.specs.Whole.{InLine, Keeps}
+use Rattle.commands.specs.Whole.{InLine, HasAllPut}
 use Rattle.commands.proofs.line.run_line.Goals as goal
 
 pub returns-in-Run-clause-file_cause : goal.returns-in-Run-clause-file_cause
@@ -177,14 +177,14 @@ pub returns-in-Sweep-clause-kind : goal.returns-in-Sweep-clause-kind
 returns-in-Sweep-clause-kind g c = subst (λ (l : Line). may_end l c.sweep_file.result ≡ true) (sym c.in-Sweep.is) c.sweep_file.ensures.kind
 
 pub returns-in-Sweep-clause-memory_first : goal.returns-in-Sweep-clause-memory_first
-returns-in-Sweep-clause-memory_first g c = λ last. absurd (subst (λ (l : Line). TakesLast (map string_bytes c.args.words.now) (Ok l) (g.F.Images.named c.args.files.now)) c.in-Sweep.is last)
+returns-in-Sweep-clause-memory_first g c = λ last. absurd (subst (λ (l : Line). TakesNothingEarly (map string_bytes c.args.words.now) (Ok l) (g.F.Images.named c.args.files.now)) c.in-Sweep.is last)
 
 pub returns-in-Sweep-clause-memory_unwritten : goal.returns-in-Sweep-clause-memory_unwritten
 returns-in-Sweep-clause-memory_unwritten g c = λ other. absurd (let t : true ≡ false = sym (ap (λ (l : Line). sweeps (Ok l)) c.in-Sweep.is) ∙ other in cc)
 
 pub returns-in-Dbg-clause-memory_first : goal.returns-in-Dbg-clause-memory_first
 returns-in-Dbg-clause-memory_first g c = λ last.
-    c.obey_files.ensures.memory_first (subst (λ (l : Line). TakesLast (map string_bytes c.args.words.now) (Ok l) (g.F.Images.named c.args.files.now)) c.in-Dbg.is last)
+    c.obey_files.ensures.memory_first (subst (λ (l : Line). TakesNothingEarly (map string_bytes c.args.words.now) (Ok l) (g.F.Images.named c.args.files.now)) c.in-Dbg.is last)
 
 -- ---- a run of contexts
 
@@ -267,23 +267,23 @@ pub returns-in-Dis-clause-no_file : goal.returns-in-Dis-clause-no_file
 returns-in-Dis-clause-no_file g c = λ other. absurd (let t : true ≡ false = sym (ap (λ (l : Line). names_file (Ok l)) c.in-Dis.is) ∙ other in cc)
 
 pub returns-in-Run-clause-read_unwritten : goal.returns-in-Run-clause-read_unwritten
-returns-in-Run-clause-read_unwritten g c = λ first. absurd (subst (λ (l : Line). TakesFirst (map string_bytes c.args.words.now) (Ok l) (g.F.Images.named c.args.files.now)) c.in-Run.is first)
+returns-in-Run-clause-read_unwritten g c = λ first. absurd (subst (λ (l : Line). ReadsInputFirst (map string_bytes c.args.words.now) (Ok l) (g.F.Images.named c.args.files.now)) c.in-Run.is first)
 
 pub returns-in-Asm-clause-read_unwritten : goal.returns-in-Asm-clause-read_unwritten
-returns-in-Asm-clause-read_unwritten g c = λ first. absurd (subst (λ (l : Line). TakesFirst (map string_bytes c.args.words.now) (Ok l) (g.F.Images.named c.args.files.now)) c.in-Asm.is first)
+returns-in-Asm-clause-read_unwritten g c = λ first. absurd (subst (λ (l : Line). ReadsInputFirst (map string_bytes c.args.words.now) (Ok l) (g.F.Images.named c.args.files.now)) c.in-Asm.is first)
 
 pub returns-in-Dis-clause-read_unwritten : goal.returns-in-Dis-clause-read_unwritten
-returns-in-Dis-clause-read_unwritten g c = λ first. absurd (subst (λ (l : Line). TakesFirst (map string_bytes c.args.words.now) (Ok l) (g.F.Images.named c.args.files.now)) c.in-Dis.is first)
+returns-in-Dis-clause-read_unwritten g c = λ first. absurd (subst (λ (l : Line). ReadsInputFirst (map string_bytes c.args.words.now) (Ok l) (g.F.Images.named c.args.files.now)) c.in-Dis.is first)
 
 pub returns-in-Load-clause-read_unwritten : goal.returns-in-Load-clause-read_unwritten
-returns-in-Load-clause-read_unwritten g c = λ first. absurd (subst (λ (l : Line). TakesFirst (map string_bytes c.args.words.now) (Ok l) (g.F.Images.named c.args.files.now)) c.in-Load.is first)
+returns-in-Load-clause-read_unwritten g c = λ first. absurd (subst (λ (l : Line). ReadsInputFirst (map string_bytes c.args.words.now) (Ok l) (g.F.Images.named c.args.files.now)) c.in-Load.is first)
 
 pub returns-in-Threads-clause-read_unwritten : goal.returns-in-Threads-clause-read_unwritten
-returns-in-Threads-clause-read_unwritten g c = λ first. absurd (subst (λ (l : Line). TakesFirst (map string_bytes c.args.words.now) (Ok l) (g.F.Images.named c.args.files.now)) c.in-Threads.is first)
+returns-in-Threads-clause-read_unwritten g c = λ first. absurd (subst (λ (l : Line). ReadsInputFirst (map string_bytes c.args.words.now) (Ok l) (g.F.Images.named c.args.files.now)) c.in-Threads.is first)
 
 pub returns-in-Dbg-clause-read_unwritten : goal.returns-in-Dbg-clause-read_unwritten
 returns-in-Dbg-clause-read_unwritten g c = λ first.
-    c.obey_files.ensures.read_unwritten (subst (λ (l : Line). TakesFirst (map string_bytes c.args.words.now) (Ok l) (g.F.Images.named c.args.files.now)) c.in-Dbg.is first)
+    c.obey_files.ensures.read_unwritten (subst (λ (l : Line). ReadsInputFirst (map string_bytes c.args.words.now) (Ok l) (g.F.Images.named c.args.files.now)) c.in-Dbg.is first)
 
 pub returns-in-Sweep-clause-read_unwritten : goal.returns-in-Sweep-clause-read_unwritten
 returns-in-Sweep-clause-read_unwritten g c = λ _. c.sweep_file.ensures.read_unwritten
@@ -292,22 +292,22 @@ returns-in-Sweep-clause-read_unwritten g c = λ _. c.sweep_file.ensures.read_unw
 
 pub returns-in-Run-clause-whole : goal.returns-in-Run-clause-whole
 returns-in-Run-clause-whole g c =
-    subst (λ (l : Line). IfSome (g.F.Images.named c.args.files.now) (λ files. takes_input (Ok l) ≡ true → reads_first (map string_bytes c.args.words.now) files (Ok l) ≡ false → Keeps (InLine (map string_bytes c.args.words.now) files (Ok l) c.run_file.result (g.I.Source.left c.run_file.new.input)) (outcome_over (map string_bytes c.args.words.now) l files) c.run_file.result (g.I.Source.left c.args.input.now) (g.O.Sink.held c.args.output.now) (g.O.Sink.held c.run_file.new.output) (g.E.Sink.held c.args.errors.now) (g.E.Sink.held c.run_file.new.errors)))
+    subst (λ (l : Line). IfSome (g.F.Images.named c.args.files.now) (λ files. takes_input (Ok l) ≡ true → reads_input_first (map string_bytes c.args.words.now) files (Ok l) ≡ false → HasAllPut (InLine (map string_bytes c.args.words.now) files (Ok l) c.run_file.result (g.I.Source.left c.run_file.new.input)) (outcome_over (map string_bytes c.args.words.now) l files) c.run_file.result (g.I.Source.left c.args.input.now) (g.O.Sink.held c.args.output.now) (g.O.Sink.held c.run_file.new.output) (g.E.Sink.held c.args.errors.now) (g.E.Sink.held c.run_file.new.errors)))
     (ap run_line_of c.new-program.ensures ∙ sym c.in-Run.is) (IfSome_then (g.F.Images.named c.args.files.now) c.run_file.ensures.whole (λ files k _ _. k))
 
 pub returns-in-Dbg-clause-whole : goal.returns-in-Dbg-clause-whole
 returns-in-Dbg-clause-whole g c =
-    subst (λ (l : Line). IfSome (g.F.Images.named c.args.files.now) (λ files. takes_input (Ok l) ≡ true → reads_first (map string_bytes c.args.words.now) files (Ok l) ≡ false → Keeps (InLine (map string_bytes c.args.words.now) files (Ok l) c.obey_files.result (g.I.Source.left c.obey_files.new.input)) (outcome_over (map string_bytes c.args.words.now) l files) c.obey_files.result (g.I.Source.left c.args.input.now) (g.O.Sink.held c.args.output.now) (g.O.Sink.held c.obey_files.new.output) (g.E.Sink.held c.args.errors.now) (g.E.Sink.held c.obey_files.new.errors)))
+    subst (λ (l : Line). IfSome (g.F.Images.named c.args.files.now) (λ files. takes_input (Ok l) ≡ true → reads_input_first (map string_bytes c.args.words.now) files (Ok l) ≡ false → HasAllPut (InLine (map string_bytes c.args.words.now) files (Ok l) c.obey_files.result (g.I.Source.left c.obey_files.new.input)) (outcome_over (map string_bytes c.args.words.now) l files) c.obey_files.result (g.I.Source.left c.args.input.now) (g.O.Sink.held c.args.output.now) (g.O.Sink.held c.obey_files.new.output) (g.E.Sink.held c.args.errors.now) (g.E.Sink.held c.obey_files.new.errors)))
     (ap (λ (p : Program). debug_line_of p c.in-Dbg.script) c.new-debugged.ensures ∙ sym c.in-Dbg.is) (IfSome_then (g.F.Images.named c.args.files.now) c.obey_files.ensures.whole (λ files k _ later. k later))
 
 pub returns-in-Threads-clause-whole : goal.returns-in-Threads-clause-whole
 returns-in-Threads-clause-whole g c =
-    subst (λ (l : Line). IfSome (g.F.Images.named c.args.files.now) (λ files. takes_input (Ok l) ≡ true → reads_first (map string_bytes c.args.words.now) files (Ok l) ≡ false → Keeps (InLine (map string_bytes c.args.words.now) files (Ok l) c.obey_files-in-Threads.result (g.I.Source.left c.obey_files-in-Threads.new.input)) (outcome_over (map string_bytes c.args.words.now) l files) c.obey_files-in-Threads.result (g.I.Source.left c.args.input.now) (g.O.Sink.held c.args.output.now) (g.O.Sink.held c.obey_files-in-Threads.new.output) (g.E.Sink.held c.args.errors.now) (g.E.Sink.held c.obey_files-in-Threads.new.errors)))
+    subst (λ (l : Line). IfSome (g.F.Images.named c.args.files.now) (λ files. takes_input (Ok l) ≡ true → reads_input_first (map string_bytes c.args.words.now) files (Ok l) ≡ false → HasAllPut (InLine (map string_bytes c.args.words.now) files (Ok l) c.obey_files-in-Threads.result (g.I.Source.left c.obey_files-in-Threads.new.input)) (outcome_over (map string_bytes c.args.words.now) l files) c.obey_files-in-Threads.result (g.I.Source.left c.args.input.now) (g.O.Sink.held c.args.output.now) (g.O.Sink.held c.obey_files-in-Threads.new.output) (g.E.Sink.held c.args.errors.now) (g.E.Sink.held c.obey_files-in-Threads.new.errors)))
     (ap (λ (p : Program). threads_line_of p c.in-Threads.schedule) c.new-threaded.ensures ∙ sym c.in-Threads.is) (IfSome_then (g.F.Images.named c.args.files.now) c.obey_files-in-Threads.ensures.whole (λ files k _ later. k later))
 
 pub returns-in-Sweep-clause-whole : goal.returns-in-Sweep-clause-whole
 returns-in-Sweep-clause-whole g c =
-    told_so (g.F.Images.named c.args.files.now) _ (λ files _ later. absurd (let t : true ≡ false = sym (ap (λ (l : Line). reads_first (map string_bytes c.args.words.now) files (Ok l)) c.in-Sweep.is) ∙ later in cc))
+    told_so (g.F.Images.named c.args.files.now) _ (λ files _ later. absurd (let t : true ≡ false = sym (ap (λ (l : Line). reads_input_first (map string_bytes c.args.words.now) files (Ok l)) c.in-Sweep.is) ∙ later in cc))
 
 pub returns-in-Asm-clause-whole : goal.returns-in-Asm-clause-whole
 returns-in-Asm-clause-whole g c =

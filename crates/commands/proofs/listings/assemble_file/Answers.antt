@@ -27,7 +27,9 @@ returns-in-Err-clause-outcome g c = λ input.
     input (g.O.Sink.held c.args.output.now) (g.E.Sink.held c.args.errors.now) _ c.word.ensures c.in-Err.ensures.content
 
 pub returns-in-Err-clause-kind : goal.returns-in-Err-clause-kind
-returns-in-Err-clause-kind g c = stops_asm c.in-Err.ending c.in-Err.ensures.kind
+returns-in-Err-clause-kind g c =
+    stops_asm c.in-Err.ending (unread_no_read (g.F.Images.named c.args.files.now) c.word.result.now c.in-Err.ending c.in-Err.ensures.unread)
+    c.in-Err.ensures.kind
 
 pub returns-in-Err-clause-no_read : goal.returns-in-Err-clause-no_read
 returns-in-Err-clause-no_read g c = unread_no_read (g.F.Images.named c.args.files.now) c.word.result.now c.in-Err.ending c.in-Err.ensures.unread

@@ -11,7 +11,7 @@ use Rattle.commands.proofs.MayEnd.{stops_run}
 use Rattle.command_lines.specs.declared.ending.Ending.TheVariants as ends
 use Rattle.commands.proofs.Causing.{no_cause, unread_cause, unread_no_read, unread_no_write}
 use Rattle.emu_model.specs.State.{State}
-use Rattle.commands.specs.Whole.{Keeps}
+use Rattle.commands.specs.Whole.{HasAllPut}
 use Rattle.commands.specs.Passing.{InFile}
 use Rattle.commands.proofs.Keeping.{behind_file, found_told, unread_told}
 use Rattle.commands.proofs.run.run_file.Goals as goal
@@ -66,7 +66,7 @@ returns-in-Ok-clause-whole g c =
     found_told (on ws c.args.program.now c.run_image.result (g.I.Source.left c.run_image.new.input)) (next ws c.args.program.now) (g.F.Images.named c.args.files.now) ws c.args.program.now.file c.word.result.now c.deref.result.now c.in-Ok.bytes.items
     (g.I.Source.left c.args.input.now) (g.O.Sink.held c.args.output.now) (g.O.Sink.held c.run_image.new.output) (g.E.Sink.held c.args.errors.now) (g.E.Sink.held c.run_image.new.errors) c.run_image.result
     c.word.ensures c.deref.ensures.value c.in-Ok.ensures.content
-    (told_so (g.F.Images.named c.args.files.now) _ (λ files. subst (λ (e : Option (List ℕ)). Keeps (on ws c.args.program.now c.run_image.result (g.I.Source.left c.run_image.new.input) files c.deref.result.now) (next ws c.args.program.now files c.deref.result.now) c.run_image.result (g.I.Source.left c.args.input.now) (g.O.Sink.held c.args.output.now) (g.O.Sink.held c.run_image.new.output) e (g.E.Sink.held c.run_image.new.errors)) (ap g.E.Sink.held c.in-Ok.ensures.read_still) c.run_image.ensures.whole))
+    (told_so (g.F.Images.named c.args.files.now) _ (λ files. subst (λ (e : Option (List ℕ)). HasAllPut (on ws c.args.program.now c.run_image.result (g.I.Source.left c.run_image.new.input) files c.deref.result.now) (next ws c.args.program.now files c.deref.result.now) c.run_image.result (g.I.Source.left c.args.input.now) (g.O.Sink.held c.args.output.now) (g.O.Sink.held c.run_image.new.output) e (g.E.Sink.held c.run_image.new.errors)) (ap g.E.Sink.held c.in-Ok.ensures.read_still) c.run_image.ensures.whole))
 
 pub returns-in-Err-clause-whole : goal.returns-in-Err-clause-whole
 returns-in-Err-clause-whole g c =

@@ -17,7 +17,7 @@ use Rattle.command_lines.specs.declared.ending.Ending.TheVariants as ends
 use Rattle.commands.proofs.Causing.{no_cause, unread_cause, unread_no_read, unread_no_write}
 use Rattle.emu_model.specs.State.{State}
 use Rattle.commands.specs.Passing.{InBoth, InNamed}
-use Rattle.commands.specs.Whole.{Keeps}
+use Rattle.commands.specs.Whole.{HasAllPut}
 use Rattle.commands.proofs.Keeping.{found_keeps, unread_keeps}
 use Rattle.commands.proofs.two_files.obey_files.Goals as goal
 
@@ -111,8 +111,8 @@ returns-in-Ok-clause-whole g c =
     found_keeps (on c.args.second ws p c.args.place c.obey_second.result (g.I.Source.left c.obey_second.new.input)) (over_two (outcome c.args.second p) ws c.args.place) (g.F.Images.named c.args.files.now) ws p.file c.word.result.now c.deref.result.now c.in-Ok.bytes.items
     (g.I.Source.left c.args.input.now) (g.O.Sink.held c.args.output.now) (g.O.Sink.held c.obey_second.new.output) (g.E.Sink.held c.args.errors.now) (g.E.Sink.held c.obey_second.new.errors) c.obey_second.result (λ files. file_reads_first c.args.second (file_at ws files c.args.place) ≡ false)
     c.word.ensures c.deref.ensures.value c.in-Ok.ensures.content
-    (subst (λ (told : Option Files). IfSome told (λ files. file_reads_first c.args.second (file_at ws files c.args.place) ≡ false → Keeps (on c.args.second ws p c.args.place c.obey_second.result (g.I.Source.left c.obey_second.new.input) files c.deref.result.now) (over_two (outcome c.args.second p) ws c.args.place files c.deref.result.now) c.obey_second.result (g.I.Source.left c.args.input.now) (g.O.Sink.held c.args.output.now) (g.O.Sink.held c.obey_second.new.output) (g.E.Sink.held c.args.errors.now) (g.E.Sink.held c.obey_second.new.errors))) c.in-Ok.ensures.told
-    (subst (λ (e : Option (List ℕ)). IfSome (g.F.Images.named c.file_bytes.new.files) (λ files. file_reads_first c.args.second (file_at ws files c.args.place) ≡ false → Keeps (on c.args.second ws p c.args.place c.obey_second.result (g.I.Source.left c.obey_second.new.input) files c.deref.result.now) (over_two (outcome c.args.second p) ws c.args.place files c.deref.result.now) c.obey_second.result (g.I.Source.left c.args.input.now) (g.O.Sink.held c.args.output.now) (g.O.Sink.held c.obey_second.new.output) e (g.E.Sink.held c.obey_second.new.errors))) (ap g.E.Sink.held c.in-Ok.ensures.read_still) c.obey_second.ensures.whole))
+    (subst (λ (told : Option Files). IfSome told (λ files. file_reads_first c.args.second (file_at ws files c.args.place) ≡ false → HasAllPut (on c.args.second ws p c.args.place c.obey_second.result (g.I.Source.left c.obey_second.new.input) files c.deref.result.now) (over_two (outcome c.args.second p) ws c.args.place files c.deref.result.now) c.obey_second.result (g.I.Source.left c.args.input.now) (g.O.Sink.held c.args.output.now) (g.O.Sink.held c.obey_second.new.output) (g.E.Sink.held c.args.errors.now) (g.E.Sink.held c.obey_second.new.errors))) c.in-Ok.ensures.told
+    (subst (λ (e : Option (List ℕ)). IfSome (g.F.Images.named c.file_bytes.new.files) (λ files. file_reads_first c.args.second (file_at ws files c.args.place) ≡ false → HasAllPut (on c.args.second ws p c.args.place c.obey_second.result (g.I.Source.left c.obey_second.new.input) files c.deref.result.now) (over_two (outcome c.args.second p) ws c.args.place files c.deref.result.now) c.obey_second.result (g.I.Source.left c.args.input.now) (g.O.Sink.held c.args.output.now) (g.O.Sink.held c.obey_second.new.output) e (g.E.Sink.held c.obey_second.new.errors))) (ap g.E.Sink.held c.in-Ok.ensures.read_still) c.obey_second.ensures.whole))
 
 pub returns-in-Err-clause-whole : goal.returns-in-Err-clause-whole
 returns-in-Err-clause-whole g c =

@@ -16,7 +16,7 @@ use Rattle.commands.proofs.MayEnd.{stops_by}
 use Rattle.command_lines.specs.declared.ending.Ending.TheVariants as ends
 use Rattle.commands.proofs.Causing.{no_cause, unread_cause, unread_no_read, unread_no_write}
 use Rattle.commands.specs.Passing.{InImage, InNamed}
-use Rattle.commands.specs.Whole.{Keeps}
+use Rattle.commands.specs.Whole.{HasAllPut}
 use Rattle.commands.proofs.Keeping.{found_behind, unread_keeps}
 use Rattle.commands.proofs.two_files.obey_second.Goals as goal
 
@@ -83,7 +83,7 @@ returns-in-Ok-clause-whole g c =
     found_behind (λ _ text. InImage c.args.second c.args.bytes.now ws c.args.program.now text c.obey_bytes.result (g.I.Source.left c.obey_bytes.new.input)) (next c.args.second c.args.bytes.now ws c.args.program.now) c.args.second (g.F.Images.named c.args.files.now) ws c.args.place c.word.result.now c.deref.result.now c.in-Ok.text.items
     (g.I.Source.left c.args.input.now) (g.O.Sink.held c.args.output.now) (g.O.Sink.held c.obey_bytes.new.output) (g.E.Sink.held c.args.errors.now) (g.E.Sink.held c.obey_bytes.new.errors) c.obey_bytes.result
     c.word.ensures c.deref.ensures.value c.in-Ok.ensures.content
-    (λ files later. subst (λ (e : Option (List ℕ)). Keeps (InImage c.args.second c.args.bytes.now ws c.args.program.now c.deref.result.now c.obey_bytes.result (g.I.Source.left c.obey_bytes.new.input)) (next c.args.second c.args.bytes.now ws c.args.program.now files c.deref.result.now) c.obey_bytes.result (g.I.Source.left c.args.input.now) (g.O.Sink.held c.args.output.now) (g.O.Sink.held c.obey_bytes.new.output) e (g.E.Sink.held c.obey_bytes.new.errors)) (ap g.E.Sink.held c.in-Ok.ensures.read_still) (c.obey_bytes.ensures.whole later))
+    (λ files later. subst (λ (e : Option (List ℕ)). HasAllPut (InImage c.args.second c.args.bytes.now ws c.args.program.now c.deref.result.now c.obey_bytes.result (g.I.Source.left c.obey_bytes.new.input)) (next c.args.second c.args.bytes.now ws c.args.program.now files c.deref.result.now) c.obey_bytes.result (g.I.Source.left c.args.input.now) (g.O.Sink.held c.args.output.now) (g.O.Sink.held c.obey_bytes.new.output) e (g.E.Sink.held c.obey_bytes.new.errors)) (ap g.E.Sink.held c.in-Ok.ensures.read_still) (c.obey_bytes.ensures.whole later))
 
 pub returns-in-Err-clause-whole : goal.returns-in-Err-clause-whole
 returns-in-Err-clause-whole g c =

@@ -5,7 +5,7 @@ use Rattle.commands.specs.Programs.{opening_of}
 use Rattle.commands.specs.Promises.{settles_by}
 use Rattle.commands.specs.Meets.{now, MeetsBy}
 use Rattle.commands.specs.SecondFiles.{ends_by, outcome_from, text_reads_first}
-use Rattle.commands.specs.Whole.{Keeps}
+use Rattle.commands.specs.Whole.{HasAllPut}
 use Rattle.commands.specs.Passing.{InSecond}
 use Rattle.commands.proofs.two_files.obey_text.Goals as goal
 
@@ -38,8 +38,8 @@ returns-in-Schedule-clause-read_unwritten g c = λ first. absurd (let t : false 
 
 pub returns-in-Script-clause-whole : goal.returns-in-Script-clause-whole
 returns-in-Script-clause-whole g c =
-    subst (λ (s : SecondFile). text_reads_first s c.args.text.now ≡ false → Keeps (InSecond s c.args.text.now (opening_of c.args.bytes.now (seen_image c.args.image.now) (map string_bytes c.args.words.now) c.args.program.now) c.args.program.now.budget c.debug_image.result (g.I.Source.left c.debug_image.new.input)) (λ i. Some (outcome_from s c.args.text.now i c.args.program.now.budget (opening_of c.args.bytes.now (seen_image c.args.image.now) (map string_bytes c.args.words.now) c.args.program.now))) c.debug_image.result (g.I.Source.left c.args.input.now) (g.O.Sink.held c.args.output.now) (g.O.Sink.held c.debug_image.new.output) (g.E.Sink.held c.args.errors.now) (g.E.Sink.held c.debug_image.new.errors)) (sym c.in-Script.is) c.debug_image.ensures.whole
+    subst (λ (s : SecondFile). text_reads_first s c.args.text.now ≡ false → HasAllPut (InSecond s c.args.text.now (opening_of c.args.bytes.now (seen_image c.args.image.now) (map string_bytes c.args.words.now) c.args.program.now) c.args.program.now.budget c.debug_image.result (g.I.Source.left c.debug_image.new.input)) (λ i. Some (outcome_from s c.args.text.now i c.args.program.now.budget (opening_of c.args.bytes.now (seen_image c.args.image.now) (map string_bytes c.args.words.now) c.args.program.now))) c.debug_image.result (g.I.Source.left c.args.input.now) (g.O.Sink.held c.args.output.now) (g.O.Sink.held c.debug_image.new.output) (g.E.Sink.held c.args.errors.now) (g.E.Sink.held c.debug_image.new.errors)) (sym c.in-Script.is) c.debug_image.ensures.whole
 
 pub returns-in-Schedule-clause-whole : goal.returns-in-Schedule-clause-whole
 returns-in-Schedule-clause-whole g c =
-    subst (λ (s : SecondFile). text_reads_first s c.args.text.now ≡ false → Keeps (InSecond s c.args.text.now (opening_of c.args.bytes.now (seen_image c.args.image.now) (map string_bytes c.args.words.now) c.args.program.now) c.args.program.now.budget c.thread_image.result (g.I.Source.left c.thread_image.new.input)) (λ i. Some (outcome_from s c.args.text.now i c.args.program.now.budget (opening_of c.args.bytes.now (seen_image c.args.image.now) (map string_bytes c.args.words.now) c.args.program.now))) c.thread_image.result (g.I.Source.left c.args.input.now) (g.O.Sink.held c.args.output.now) (g.O.Sink.held c.thread_image.new.output) (g.E.Sink.held c.args.errors.now) (g.E.Sink.held c.thread_image.new.errors)) (sym c.in-Schedule.is) (λ _. c.thread_image.ensures.whole)
+    subst (λ (s : SecondFile). text_reads_first s c.args.text.now ≡ false → HasAllPut (InSecond s c.args.text.now (opening_of c.args.bytes.now (seen_image c.args.image.now) (map string_bytes c.args.words.now) c.args.program.now) c.args.program.now.budget c.thread_image.result (g.I.Source.left c.thread_image.new.input)) (λ i. Some (outcome_from s c.args.text.now i c.args.program.now.budget (opening_of c.args.bytes.now (seen_image c.args.image.now) (map string_bytes c.args.words.now) c.args.program.now))) c.thread_image.result (g.I.Source.left c.args.input.now) (g.O.Sink.held c.args.output.now) (g.O.Sink.held c.thread_image.new.output) (g.E.Sink.held c.args.errors.now) (g.E.Sink.held c.thread_image.new.errors)) (sym c.in-Schedule.is) (λ _. c.thread_image.ensures.whole)

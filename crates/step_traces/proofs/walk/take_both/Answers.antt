@@ -3,7 +3,7 @@ use Rattle.emu_model.specs.declared.access.Access.{Access}
 use Rattle.emu_model.specs.State.{Parts}
 use Rattle.emu_run.specs.Step.{accesses, step_from}
 use Rattle.emu_report.proofs.Puts.{put_equal}
-use Rattle.step_traces.specs.Traces.{told}
+use Rattle.step_traces.specs.Traces.{told_lines}
 use Rattle.step_traces.proofs.walk.take_both.Goals as goal
 
 pub take_step-requires-clause-room : goal.take_step-requires-clause-room
@@ -18,7 +18,7 @@ returns-clause-bytes g c =
     let rest = drop c.args.source.now.place c.args.source.now.bytes in
     let parts : c.take_step.new.machine.parts ≡ (step_from m rest).parts = c.take_step.ensures.parts ∙ ap₂ (λ (p : Parts) (i : List ℕ). (step_from p i).parts) c.requires.same c.requires.rest in
     let touched : c.take_step.new.machine.accesses ≡ accesses m = c.take_step.ensures.accesses ∙ ap accesses c.requires.same in
-    put_equal _ _ _ _ (ap₂ (λ (p : Parts) (xs : List Access). told c.args.shown.now c.args.window.now c.args.stage m p xs) parts touched) c.in_ok-put_at.ensures.bytes
+    put_equal _ _ _ _ (ap₂ (λ (p : Parts) (xs : List Access). told_lines c.args.shown.now c.args.window.now c.args.stage m p xs) parts touched) c.in_ok-put_at.ensures.bytes
 
 pub returns-clause-same : goal.returns-clause-same
 returns-clause-same g c =

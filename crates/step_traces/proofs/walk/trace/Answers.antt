@@ -5,7 +5,7 @@ use Rattle.io_gate.specs.Lent.{Lent}
 use Rattle.emu_report.proofs.Puts.{put_both, put_equal}
 use Rattle.trace_lines.proofs.Putting.{put_none}
 use Rattle.trace_options.specs.Windows.{first_stage, is_over}
-use Rattle.step_traces.specs.Traces.{told}
+use Rattle.step_traces.specs.Traces.{told_lines}
 use Rattle.step_traces.proofs.Walking.{ended_over, goes, goes_whole, going_of, going_on, going_over, last_all, last_ended, left_all, left_before, left_ended, not_ended, over_other, told_all, told_next, told_nothing, told_over}
 use Rattle.step_traces.proofs.walk.trace.Goals as goal
 
@@ -38,7 +38,7 @@ walk-preserved g c =
     let m = c.walk.machine.parts in
     let rest = drop c.walk.source.place c.walk.source.bytes in
     let goes_on_here = going_on w c.walk.stage m c.walk.invariant.going (ap is_over (sym c.stage_before-stage.ensures) ∙ sym c.is_over.ensures ∙ c.if-is_over.false) in
-    let told_here = told c.args.shown.now w c.stage_before-stage.result m (step_from m rest).parts (accesses m) in
+    let told_here = told_lines c.args.shown.now w c.stage_before-stage.result m (step_from m rest).parts (accesses m) in
     let now = c.steps.ensures in
     let test = c.walk-test.true in
     let one : c.take_both.new.machine.parts.steps ≡ m.steps + 1 = c.in_ok-end.ensures.counted c.in-Going.is in
@@ -105,7 +105,7 @@ returns-in_default-clause-bytes g c =
     let rest = drop c.walk.source.place c.walk.source.bytes in
     let q = c.take_both.new.machine.parts in
     let goes_on_here = going_on w c.walk.stage m c.walk.invariant.going (ap is_over (sym c.stage_before-stage.ensures) ∙ sym c.is_over.ensures ∙ c.if-is_over.false) in
-    let told_here = told c.args.shown.now w c.stage_before-stage.result m (step_from m rest).parts (accesses m) in
+    let told_here = told_lines c.args.shown.now w c.stage_before-stage.result m (step_from m rest).parts (accesses m) in
     let now = c.steps.ensures in
     let test = c.walk-test.true in
     let has = told_next _ _ _ _ _ _ _ _ _ _ _ c.walk.invariant.told c.stage_before-stage.result c.behind-stage.result (c.args.budget - m.steps - 1)

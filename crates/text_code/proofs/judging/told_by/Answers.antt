@@ -4,7 +4,7 @@ use Rattle.std.specs.Int.{w128}
 use Rattle.std.specs.Prelude.{FitsSigned}
 use Rattle.text_model.specs.declared.slots.Shape.{Shape}
 use Rattle.text_model.specs.Slots.{place_of, places, bits_in}
-use Rattle.text_model.specs.Told.{Built, class_tells, codec_tells, told, parted, bound, all_bound}
+use Rattle.text_model.specs.Told.{Built, class_tells, codec_tells, told_number, parted, bound, all_bound}
 use Rattle.text_code.specs.Tables.{built_of}
 use Rattle.text_code.proofs.Parted.{told_both, no_class}
 use Rattle.text_code.proofs.Slots.{parts_sound, narrow, kind_sound, told_in_word}
@@ -42,7 +42,7 @@ returns c =
     ] in
     let f : FitsSigned w128 c.args.item.value = search rules in
     let e : to_z w128 (of_z w128 c.args.item.value) ≡ c.args.item.value = to_z-of_z w128 c.args.item.value f in
-    let value : c.told.result ≡ told codec.kind (bits_in (places codec.parts)) c.args.item.value = c.told.ensures ∙ ap₂ (λ (n : ℕ) (z : ℤ). told codec.kind n z) c.width_of.ensures.value e in
+    let value : c.told.result ≡ told_number codec.kind (bits_in (places codec.parts)) c.args.item.value = c.told.ensures ∙ ap₂ (λ (n : ℕ) (z : ℤ). told_number codec.kind n z) c.width_of.ensures.value e in
     c.with_parts.ensures
     ∙ ap₂ (λ (b : Built) (n : ℕ). all_bound b (parted (places codec.parts) n)) classed value
     ∙ sym (told_both a (class_tells shape class) (codec_tells codec c.args.item.value))

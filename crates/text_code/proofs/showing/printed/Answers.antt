@@ -3,7 +3,7 @@ use Rattle.std.proofs.lemmas.Int.{to_z-of_z}
 use Rattle.std.specs.Int.{w128}
 use Rattle.std.specs.Prelude.{FitsSigned}
 use Rattle.text_model.specs.declared.slots.Kind.{Kind}
-use Rattle.text_model.specs.Slots.{places, bits_in, joined, shown, target_address}
+use Rattle.text_model.specs.Slots.{places, bits_in, joined, shown_number, target_address}
 use Rattle.text_model.specs.Text.{printed}
 use Rattle.text_code.proofs.Slots.{parts_sound, narrow, kind_sound}
 use Rattle.text_code.proofs.Targets.{target_sound, printed_as_shown}
@@ -46,4 +46,4 @@ returns-in_default c =
     let v : ℕ = joined (places c.args.slot.codec.parts) c.args.word in
     let f : FitsSigned w128 c.shown.result = search rules in
     let e : to_z w128 (of_z w128 c.shown.result) ≡ c.shown.result = to_z-of_z w128 c.shown.result f in
-    e ∙ c.shown.ensures ∙ ap₂ (shown k) c.width_of.ensures.value c.number_of-number.ensures.value ∙ printed_as_shown k b v c.args.pc c.in_default.not-Target
+    e ∙ c.shown.ensures ∙ ap₂ (shown_number k) c.width_of.ensures.value c.number_of-number.ensures.value ∙ printed_as_shown k b v c.args.pc c.in_default.not-Target

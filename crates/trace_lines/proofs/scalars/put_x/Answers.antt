@@ -5,7 +5,7 @@ use Rattle.emu_run.specs.Registers.{numbered}
 use Rattle.emu_run.specs.Text.{hex, space}
 use Rattle.emu_report.proofs.Core.{x_read}
 use Rattle.emu_report.proofs.Puts.{puts_equal}
-use Rattle.trace_lines.specs.Lines.{item}
+use Rattle.trace_lines.specs.Lines.{change_text}
 use Rattle.trace_lines.proofs.Pieces.{four_pieces}
 use Rattle.trace_lines.proofs.scalars.put_x.Goals as goal
 
@@ -21,5 +21,5 @@ returns-clause-bytes g c =
     (four_pieces _ _ _ _ _ (codes " | x") (decimal k) space (hex 16 (get_or c.args.new.now.x k 0)) c.new-text.ensures c.push.ensures.text
     (c.push_decimal.ensures.text ∙ ap (λ (n : ℕ). c.push.new.self ++ decimal n) number) c.push-2.ensures.text
     (c.push_hex.ensures.text ∙ ap (λ (v : ℕ). c.push-2.new.self ++ hex 16 v) new)
-    ∙ ap (λ (b : Bool). if b then [] else item (numbered (codes "x") k) (hex 16 (get_or c.args.new.now.x k 0))) (sym changed))
+    ∙ ap (λ (b : Bool). if b then [] else change_text (numbered (codes "x") k) (hex 16 (get_or c.args.new.now.x k 0))) (sym changed))
     c.put.ensures.bytes

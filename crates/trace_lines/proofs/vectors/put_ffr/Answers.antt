@@ -3,7 +3,7 @@ use Rattle.emu_run.specs.Registers.{bit_digits}
 use Rattle.vec_regs.specs.Words.{bits_of}
 use Rattle.emu_report.proofs.Puts.{puts_equal}
 use Rattle.emu_report.proofs.VectorDigits.{p_digits}
-use Rattle.trace_lines.specs.Lines.{ffr_change, is_same_ffr, item}
+use Rattle.trace_lines.specs.Lines.{ffr_change, is_same_ffr, change_text}
 use Rattle.trace_lines.proofs.Pieces.{two_pieces}
 use Rattle.trace_lines.proofs.Putting.{told_text}
 use Rattle.trace_lines.proofs.vectors.put_ffr.Goals as goal
@@ -19,6 +19,6 @@ returns-clause-bytes g c =
     let changed : is_same_ffr c.args.old.now c.args.new.now ≡ false = sym c.is_same_ffr.ensures ∙ c.if-is_same_ffr.false in
     puts_equal _ _ _ _ _
     (two_pieces _ _ _ (codes " | ffr ") (bit_digits ffr) c.new-text.ensures c.push.ensures.text (c.push_words.ensures.text ∙ ap (λ (ds : List ℕ). c.push.new.self ++ ds) digits)
-    ∙ ap (λ (b : Bool). if b then [] else item (codes "ffr") (bit_digits ffr)) (sym changed)
+    ∙ ap (λ (b : Bool). if b then [] else change_text (codes "ffr") (bit_digits ffr)) (sym changed)
     ∙ told_text c.args.told (ffr_change c.args.old.now c.args.new.now) c.if-not-told.false)
     c.put.ensures.bytes

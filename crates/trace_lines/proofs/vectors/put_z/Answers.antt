@@ -5,7 +5,7 @@ use Rattle.emu_run.specs.Registers.{byte_digits, numbered}
 use Rattle.vec_regs.specs.Words.{bytes_of}
 use Rattle.emu_report.proofs.Puts.{puts_equal}
 use Rattle.emu_report.proofs.VectorDigits.{z_digits}
-use Rattle.trace_lines.specs.Lines.{is_same_z, item}
+use Rattle.trace_lines.specs.Lines.{is_same_z, change_text}
 use Rattle.trace_lines.proofs.Pieces.{four_pieces}
 use Rattle.trace_lines.proofs.vectors.put_z.Goals as goal
 
@@ -26,5 +26,5 @@ returns-clause-bytes g c =
     (four_pieces _ _ _ _ _ (codes " | z") (decimal k) space (byte_digits value) c.new-text.ensures c.push.ensures.text
     (c.push_decimal.ensures.text ∙ ap (λ (n : ℕ). c.push.new.self ++ decimal n) number) c.push-2.ensures.text
     (c.push_words.ensures.text ∙ ap (λ (ds : List ℕ). c.push-2.new.self ++ ds) digits)
-    ∙ ap (λ (b : Bool). if b then [] else item (numbered (codes "z") k) (byte_digits value)) (sym changed))
+    ∙ ap (λ (b : Bool). if b then [] else change_text (numbered (codes "z") k) (byte_digits value)) (sym changed))
     c.put.ensures.bytes

@@ -1,10 +1,10 @@
 use Rattle.std.proofs.Common.{◌≡◌}
 use Rattle.emu_run.specs.Registers.{lines_of}
-use Rattle.trace_lines.specs.Lines.{z_change, IsPut}
+use Rattle.trace_lines.specs.Lines.{z_change, HasGained}
 use Rattle.trace_lines.proofs.vectors.put_zs.Given as goal
 
 abbrev pub invariant-registers : goal.invariant-registers
 invariant-registers g l = record {
-  put : IsPut (g.S.Sink.held l.fn.sink) (g.S.Sink.held l.sink) (lines_of l.k (z_change l.old l.new));
+  put : HasGained (g.S.Sink.held l.fn.sink) (g.S.Sink.held l.sink) (lines_of l.k (z_change l.old l.new));
   kept : g.S.Sink.faults l.sink ≡ g.S.Sink.faults l.fn.sink;
 }

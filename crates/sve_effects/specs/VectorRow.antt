@@ -8,11 +8,11 @@ use Rattle.sve_effects.specs.FirstFault.{first_fault_row}
 use Rattle.sve_effects.specs.VectorElements.{MemoryRow, Way, loads, stores, first_faults, non_faults, elements_of, row_layout}
 use Rattle.sve_effects.specs.VectorLoadStore.{load_row, store_row}
 
--- the vector registers after it, or all registers after it; or its elements in memory
-pub data Row : Type 0 where
-  by_lanes : (Core → Vectors → Vectors) → Row
-  by_registers : (Core → Vectors → Registers) → Row
-  memory : MemoryRow → Row
+-- what an instruction is: what the vector registers, or all registers, become; or its elements in memory
+pub data VectorRow : Type 0 where
+  by_lanes : (Core → Vectors → Vectors) → VectorRow
+  by_registers : (Core → Vectors → Registers) → VectorRow
+  memory : MemoryRow → VectorRow
 
 -- ---- what a row does
 
@@ -23,7 +23,7 @@ done_by_way first_faults r c v m = first_fault_row false r (elements_of (row_lay
 done_by_way non_faults r c v m = first_fault_row true r (elements_of (row_layout r c v)) c v m
 
 -- an instruction of a row that reaches no memory goes on behind it
-abbrev pub done_by : Row → Core → Vectors → Memory → Done
-done_by (by_lanes f) c v m = went_on_with (leaves c (f c v)) m
-done_by (by_registers f) c v m = went_on_with (f c v) m
-done_by (memory r) c v m = done_by_way r.way r c v m
+abbrev pub performed_by : VectorRow → Core → Vectors → Memory → Done
+performed_by (by_lanes f) c v m = went_on_with (leaves c (f c v)) m
+performed_by (by_registers f) c v m = went_on_with (f c v) m
+performed_by (memory r) c v m = done_by_way r.way r c v m

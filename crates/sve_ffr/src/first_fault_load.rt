@@ -12,7 +12,7 @@ use sve_insn::{Sve, SveForm};
 /// The bits of lanes, the bytes of elements, which bound those of a list, the register that is loaded, whether the base
 /// is SP, and whether no element traps.
 #[derive(Clone, Copy)]
-pub struct Row {
+pub struct FirstFaultLoad {
     pub bits: u32,
     pub bytes: u32,
     pub register: Reg,
@@ -21,7 +21,7 @@ pub struct Row {
 }
 
 /// A contiguous row.
-fn contiguous(dtype: U<4>, rn: Reg, zt: Reg, is_non_fault: bool) -> Row
+fn contiguous(dtype: U<4>, rn: Reg, zt: Reg, is_non_fault: bool) -> FirstFaultLoad
     ensures value { result ≡ record {
       bits = table.dtype_bits dtype;
       bytes = table.dtype_bytes dtype;
@@ -33,7 +33,7 @@ fn contiguous(dtype: U<4>, rn: Reg, zt: Reg, is_non_fault: bool) -> Row
     ensures some { 1 ≤ result.bytes }
     ensures most { result.bytes ≤ 8 }
 {
-    Row {
+    FirstFaultLoad {
         bits: dtype_bits(dtype.get()),
         bytes: dtype_bytes(dtype.get()),
         register: zt,
@@ -43,7 +43,7 @@ fn contiguous(dtype: U<4>, rn: Reg, zt: Reg, is_non_fault: bool) -> Row
 }
 
 /// A gather from a base register.
-fn from_base(bits: u32, msz: U<2>, rn: Reg, zt: Reg) -> Row
+fn from_base(bits: u32, msz: U<2>, rn: Reg, zt: Reg) -> FirstFaultLoad
     requires { IsLaneSize bits }
     ensures value { result
         ≡ record { bits = bits; bytes = 2 ^ msz; register = zt; has_sp_base = nat_eq rn 31; is_non_fault = false } }
@@ -51,7 +51,7 @@ fn from_base(bits: u32, msz: U<2>, rn: Reg, zt: Reg) -> Row
     ensures some { 1 ≤ result.bytes }
     ensures most { result.bytes ≤ 8 }
 {
-    Row {
+    FirstFaultLoad {
         bits,
         bytes: element_bytes(msz),
         register: zt,
@@ -61,7 +61,7 @@ fn from_base(bits: u32, msz: U<2>, rn: Reg, zt: Reg) -> Row
 }
 
 /// A gather from the lanes of a vector register.
-fn at_vector(bits: u32, msz: U<2>, zt: Reg) -> Row
+fn at_vector(bits: u32, msz: U<2>, zt: Reg) -> FirstFaultLoad
     requires { IsLaneSize bits }
     ensures value { result
         ≡ record { bits = bits; bytes = 2 ^ msz; register = zt; has_sp_base = false; is_non_fault = false } }
@@ -69,7 +69,7 @@ fn at_vector(bits: u32, msz: U<2>, zt: Reg) -> Row
     ensures some { 1 ≤ result.bytes }
     ensures most { result.bytes ≤ 8 }
 {
-    Row {
+    FirstFaultLoad {
         bits,
         bytes: element_bytes(msz),
         register: zt,
@@ -79,9 +79,9 @@ fn at_vector(bits: u32, msz: U<2>, zt: Reg) -> Row
 }
 
 /// The row of an instruction.
-pub(crate) fn row_of(i: &Sve) -> Row
+pub(crate) fn first_fault_load_of(i: &Sve) -> FirstFaultLoad
     requires { is_first_fault i.now ≡ true }
-    ensures value { result ≡ rows.row_of i.now }
+    ensures value { result ≡ rows.first_fault_load_of i.now }
     ensures size { IsLaneSize result.bits }
     ensures some { 1 ≤ result.bytes }
     ensures most { result.bytes ≤ 8 }
