@@ -15,8 +15,9 @@ pub struct Shape {
     pub is_signed: bool,
 }
 
-/// The lanes and elements of a dtype, of one register.
-pub(crate) fn by_dtype(dtype: u32) -> Shape
+/// The lanes and elements of a dtype, of one register. The dtype is a constant where it is called.
+#[inline(always)]
+fn of_dtype(dtype: u32) -> Shape
     requires { dtype < 16 }
     ensures value { result ≡ dtype_shape dtype }
     ensures shape { IsShape result }
@@ -26,6 +27,32 @@ pub(crate) fn by_dtype(dtype: u32) -> Shape
         bytes: dtype_bytes(dtype),
         registers: 1,
         is_signed: dtype_signed(dtype),
+    }
+}
+
+/// The lanes and elements of a dtype, of one register.
+pub(crate) fn by_dtype(dtype: u32) -> Shape
+    requires { dtype < 16 }
+    ensures value { result ≡ dtype_shape dtype }
+    ensures shape { IsShape result }
+{
+    match dtype {
+        0 => of_dtype(0),
+        1 => of_dtype(1),
+        2 => of_dtype(2),
+        3 => of_dtype(3),
+        4 => of_dtype(4),
+        5 => of_dtype(5),
+        6 => of_dtype(6),
+        7 => of_dtype(7),
+        8 => of_dtype(8),
+        9 => of_dtype(9),
+        10 => of_dtype(10),
+        11 => of_dtype(11),
+        12 => of_dtype(12),
+        13 => of_dtype(13),
+        14 => of_dtype(14),
+        _ => of_dtype(15),
     }
 }
 

@@ -1,4 +1,4 @@
-use Rattle.std.proofs.Common.{◌≡◌, ◌<◌, ◌≤◌, ◌+◌, ◌/◌, ℕ, false, inl, inr, arith}
+use Rattle.std.proofs.Common.{◌≡◌, ◌<◌, ◌≤◌, ◌+◌, ◌/◌, ℕ, false, inl, inr, ap, ◌∙◌, arith}
 use Rattle.std.proofs.lemmas.Bool.{cases_lt}
 use Rattle.sve_effects.specs.LaneLoop.{is_active}
 use Rattle.contiguous_runs.specs.Leading.{HasActive}
@@ -16,4 +16,6 @@ returns-then-next-lanes-clause-not c = λ is.
     record { lane = later.lane; from = omega (arith, later.from); within = later.within; on = later.on }
 
 pub returns-clause-idle : goal.returns-clause-idle
-returns-clause-idle c = λ is i lo hi. c.idle_from.ensures.off i lo (omega arith)
+returns-clause-idle c = λ is i lo hi.
+    let lanes : c.bits.result / c.args.e ≡ c.args.vec.now.bits / c.args.e = ap (λ n. n / c.args.e) (c.bits.ensures.value ∙ c.length.ensures.value) in
+    c.idle_from.ensures.off i lo (omega (arith, lanes, hi, c.if-next-lanes.false))

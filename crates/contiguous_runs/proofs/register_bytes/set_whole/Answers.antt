@@ -30,7 +30,7 @@ loop-i-init c =
     record {
       bits = ap (λ (w : Vectors). w.bits) c.set_z_pair.ensures;
       written = c.set_z_pair.ensures
-          ∙ more v v c.args.zd 0 c.whole_word-lowest.result c.whole_word-next.result words g c.z_words-words.ensures.words c.length-parts.ensures.length (no_parts v c.args.zd words c.z_words-words.ensures.words g)
+          ∙ more v v c.args.zd 0 c.whole_word-lowest.result c.whole_word-next.result words g c.z_words-words.ensures.words c.length.ensures.length (no_parts v c.args.zd words c.z_words-words.ensures.words g)
           c.whole_word-lowest.ensures c.whole_word-next.ensures;
     }
 
@@ -40,7 +40,7 @@ loop-i-preserved c =
     record {
       bits = ap (λ (w : Vectors). w.bits) c.set_z_pair-in-loop-i.ensures ∙ c.loop-i.invariant.bits;
       written = c.set_z_pair-in-loop-i.ensures
-          ∙ more c.args.vec.now c.loop-i.vec c.args.zd c.loop-i.i c.whole_word-low.result c.whole_word-high.result c.z_words-words.result.now g c.z_words-words.ensures.words c.length-parts.ensures.length c.loop-i.invariant.written
+          ∙ more c.args.vec.now c.loop-i.vec c.args.zd c.loop-i.i c.whole_word-low.result c.whole_word-high.result c.z_words-words.result.now g c.z_words-words.ensures.words c.length.ensures.length c.loop-i.invariant.written
           c.whole_word-low.ensures c.whole_word-high.ensures;
     }
 
@@ -48,4 +48,4 @@ pub returns : goal.returns
 returns c =
     let g : ℕ → ℕ = λ j. get_or c.args.bytes.now j 0 in
     let end : c.args.vec.now.bits / 128 ≤ c.loop-i.i = omega arith in
-    c.loop-i.invariant.written ∙ all_parts c.args.vec.now c.args.zd g c.loop-i.i c.length-parts.ensures.length end
+    c.loop-i.invariant.written ∙ all_parts c.args.vec.now c.args.zd g c.loop-i.i c.length.ensures.length end
