@@ -1,6 +1,5 @@
-use Rattle.std.proofs.Common.{◌≡◌, ◌<◌, ◌≤◌, ◌+◌, ◌/◌, ℕ, false, inl, inr, ap, ◌∙◌, arith}
+use Rattle.std.proofs.Common.{◌≡◌, ◌+◌, ◌/◌, inl, inr, ap, ◌∙◌, arith}
 use Rattle.std.proofs.lemmas.Bool.{cases_lt}
-use Rattle.sve_effects.specs.LaneLoop.{is_active}
 use Rattle.contiguous_runs.specs.Leading.{HasActive}
 use Rattle.contiguous_runs.proofs.leading.is_rest_idle.Goals as goal
 

@@ -1,4 +1,4 @@
-use Rattle.std.proofs.Common.{◌≡◌, ◌<◌, ◌≤◌, ◌+◌, ◌*◌, ◌/◌, List, ℕ, length, get_or, refl, ◌∙◌, arith}
+use Rattle.std.proofs.Common.{◌/◌, List, ℕ, refl, ◌∙◌, arith}
 use Rattle.contiguous_runs.proofs.FirstBytes.{byte_of_register}
 use Rattle.emu_model.specs.Lanes.{read_z}
 use Rattle.contiguous_runs.proofs.register_bytes.put_whole.Goals as goal

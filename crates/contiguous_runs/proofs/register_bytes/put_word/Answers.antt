@@ -1,5 +1,4 @@
 use Rattle.std.proofs.Common.{List, ℕ, length, get_or, sym, ap, ◌+◌, ◌-◌, ◌*◌, ◌/◌, ◌%◌, ◌^◌, ◌∙◌}
-use borrow.Rule.Slice.PartMut.{same_len_mid}
 use Rattle.element_loops.proofs.WordBytes.{low_byte, word_more}
 use Rattle.contiguous_runs.proofs.register_bytes.put_word.Goals as goal
 

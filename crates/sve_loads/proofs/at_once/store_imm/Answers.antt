@@ -1,4 +1,4 @@
-use Rattle.std.proofs.Common.{sym, ap, ◌∙◌}
+use Rattle.std.proofs.Common.{ap, ◌∙◌}
 use Rattle.element_loops.specs.Planned.{store_by}
 use Rattle.sve_loads.specs.declared.shape.Shape.{Shape}
 use Rattle.sve_loads.specs.Plans.{imm_plan}
