@@ -6,7 +6,7 @@ use Rattle.std.proofs.lemmas.Nat.{div-add-mod', div_below}
 use Rattle.emu_bits.specs.Fields.{bit}
 use Rattle.emu_model.specs.SoundState.{IsVectorLength}
 use Rattle.lane_model.specs.declared.places.LaneSource.TheVariants.{FirstLane, SecondLane, Scalar}
-use Rattle.sve_effects.specs.Permute.{taken, in_turn, concatenated, zip_place, uzp_place, trn_place, insr_place}
+use Rattle.sve_effects.specs.Permute.{taken, by_parity, concatenated, zip_place, uzp_place, trn_place, insr_place}
 use Rattle.emu_model.specs.LaneSizes.{IsLaneSize}
 
 pub bit_small : (b : Bool) → bit b ≤ 1
@@ -47,7 +47,7 @@ module _ (a b x y : ℕ → ℕ) (m : ℕ) where
   turned true j u p q = p
   turned false j u p q = q
 
-  in_step : (j k t u : ℕ) → j % 2 ≡ k % 2 → x t ≡ a u % m → y t ≡ b u % m → taken x y 0 0 (in_turn j t) ≡ taken a b 0 0 (in_turn k u) % m
+  in_step : (j k t u : ℕ) → j % 2 ≡ k % 2 → x t ≡ a u % m → y t ≡ b u % m → taken x y 0 0 (by_parity j t) ≡ taken a b 0 0 (by_parity k u) % m
   in_step j k t u e p q = turned (nat_eq (j % 2) 0) t u p q ∙ ap (λ r. taken a b 0 0 (if nat_eq r 0 then FirstLane u else SecondLane u) % m) e
 
 -- lanes of halves of 128 bits: h is the half, of which p tells whether it is a high one
