@@ -1,5 +1,5 @@
 //! The active lanes of a register where they come before all others.
-ghost use Rattle.std.specs.Prelude.{◌≡◌, ◌≤◌, ◌<◌, ◌/◌, ℕ, None, IfSome, true, false};
+ghost use Rattle.std.specs.Prelude.{◌≡◌, ◌≢◌, ◌≤◌, ◌<◌, ◌/◌, ℕ, None, IfSome, true, false};
 ghost use Rattle.emu_model.specs.LaneSizes.{IsLaneSize};
 ghost use Rattle.sve_effects.specs.LaneLoop.{is_active};
 ghost use Rattle.contiguous_runs.specs.Leading.{AreLeading, HasActive, HasGap};
@@ -76,6 +76,18 @@ fn leading(vec: &VecRegs, pg: Pred, e: u32) -> Option<u32>
     Some(n)
 }
 
+/// The size of lanes that have more than 32 bits, as a constant.
+#[inline(always)]
+fn largest(e: u32) -> u32
+    requires size { IsLaneSize e }
+    requires not_bytes { e ≢ 8 }
+    requires not_halfwords { e ≢ 16 }
+    requires not_words { e ≢ 32 }
+    ensures { result ≡ e }
+{
+    64
+}
+
 /// How many lanes are active, where these come before all others. None where an active lane is behind one that isn't.
 #[inline(always)]
 pub fn leading_lanes(vec: &VecRegs, pg: Pred, e: u32) -> Option<u32>
@@ -88,7 +100,6 @@ pub fn leading_lanes(vec: &VecRegs, pg: Pred, e: u32) -> Option<u32>
         8 => leading(vec, pg, 8),
         16 => leading(vec, pg, 16),
         32 => leading(vec, pg, 32),
-        64 => leading(vec, pg, 64),
-        _ => unreachable!(),
+        _ => leading(vec, pg, largest(e)),
     }
 }

@@ -53,11 +53,14 @@ fn set_whole(vec: &mut VecRegs, zd: Reg, bytes: &[u8])
 {
     let parts = vec.length().bits() / 128;
     let _words = vec.z_words(zd);
-    // the first 128 bits apart, so that a register of no more takes no loop
-    let lowest = whole_word(bytes, 0);
-    let next = whole_word(bytes, 8);
-    vec.set_z_pair(zd, 0, [lowest, next]);
-    for i in 1..parts {
+    // 128 bits take no loop
+    if parts == 1 {
+        let low = whole_word(bytes, 0);
+        let high = whole_word(bytes, 8);
+        vec.set_z_pair(zd, 0, [low, high]);
+        return;
+    }
+    for i in 0..parts {
         let low = whole_word(bytes, 16 * i as usize);
         let high = whole_word(bytes, 16 * i as usize + 8);
         vec.set_z_pair(zd, i, [low, high]);
@@ -126,10 +129,14 @@ fn put_whole(vec: &VecRegs, r: Reg, bytes: &mut [u8])
 {
     let _length = vec.length();
     let words = vec.z_words(r);
-    // the first 128 bits apart, so that a register of no more takes no loop
-    put_word(bytes, 0, words[0]);
-    put_word(bytes, 1, words[1]);
-    for i in 1..vec.length().bits() as usize / 128 {
+    let parts = vec.length().bits() as usize / 128;
+    // 128 bits take no loop
+    if parts == 1 {
+        put_word(bytes, 0, words[0]);
+        put_word(bytes, 1, words[1]);
+        return;
+    }
+    for i in 0..parts {
         put_word(bytes, 2 * i, words[2 * i]);
         put_word(bytes, 2 * i + 1, words[2 * i + 1]);
     }
