@@ -136,9 +136,8 @@ fn put_whole(vec: &VecRegs, r: Reg, bytes: &mut [u8])
         put_word(bytes, 1, words[1]);
         return;
     }
-    for i in 0..parts {
-        put_word(bytes, 2 * i, words[2 * i]);
-        put_word(bytes, 2 * i + 1, words[2 * i + 1]);
+    for i in 0..2 * parts {
+        put_word(bytes, i, words[i]);
     }
 }
 

@@ -4,13 +4,10 @@ use Rattle.emu_model.specs.Lanes.{read_z}
 use Rattle.contiguous_runs.proofs.register_bytes.put_whole.Goals as goal
 
 pub loop-i-preserved : goal.loop-i-preserved
-loop-i-preserved c =
-    let words : List ℕ = c.z_words-words.result.now in
-    record {
-      count = c.put_word-in-loop-i-2.ensures.long ∙ c.put_word-in-loop-i.ensures.long ∙ c.loop-i.invariant.count;
-      done = λ j b. c.put_word-in-loop-i-2.ensures.done words refl
-          (λ k h. c.put_word-in-loop-i.ensures.done words refl (λ k h. c.loop-i.invariant.done k (omega (arith, h))) k (omega (arith, h))) j (omega (arith, b));
-    }
+loop-i-preserved c = record {
+  count = c.put_word-in-loop-i.ensures.long ∙ c.loop-i.invariant.count;
+  done = c.put_word-in-loop-i.ensures.done c.z_words-words.result.now refl c.loop-i.invariant.done;
+}
 
 pub returns-then-parts-eq1-clause-same : goal.returns-then-parts-eq1-clause-same
 returns-then-parts-eq1-clause-same c = λ j b.
