@@ -18,8 +18,9 @@ fn whole_word(bytes: &[u8], place: usize) -> u64
     LittleEndian::read_u64(&bytes[place..place + 8])
 }
 
-/// The bytes from a place on, fewer than eight, as a word with zeros above them.
-fn last_word(bytes: &[u8], place: usize) -> u64
+/// The bytes from a place on, fewer than eight and all that there are, as a word with zeros above them.
+#[inline(never)]
+fn few_bytes(bytes: &[u8], place: usize) -> u64
     requires some { place ≤ length bytes.now }
     requires few { length bytes.now < place + 8 }
     ensures { (t : ℕ) → t < 8 → result / 2 ^ (8 * t) % 256 ≡ get_or bytes.now (place + t) 0 }
@@ -28,6 +29,21 @@ fn last_word(bytes: &[u8], place: usize) -> u64
     let count = bytes.len() - place;
     last[..count].copy_from_slice(&bytes[place..place + count]);
     whole_word(&last, 0)
+}
+
+/// The same, by the last eight bytes where there are eight.
+#[inline(always)]
+fn last_word(bytes: &[u8], place: usize) -> u64
+    requires some { place < length bytes.now }
+    requires few { length bytes.now < place + 8 }
+    ensures { (t : ℕ) → t < 8 → result / 2 ^ (8 * t) % 256 ≡ get_or bytes.now (place + t) 0 }
+{
+    if bytes.len() < 8 {
+        return few_bytes(bytes, place);
+    }
+    let before = place + 8 - bytes.len();
+    let word = whole_word(bytes, bytes.len() - 8);
+    word >> (8 * before)
 }
 
 /// Eight bytes from a place on, as a word; those behind the last byte are 0.
@@ -120,37 +136,28 @@ fn put_word(bytes: &mut [u8], i: usize, word: u64)
     bytes[8 * i..8 * i + 8].copy_from_slice(&word.to_le_bytes());
 }
 
-/// Puts all bytes of a register.
+/// Puts the first 16 bytes of a register.
 #[inline(always)]
-fn put_whole(vec: &VecRegs, r: Reg, bytes: &mut [u8])
-    requires { length bytes.old ≡ vec.now.bits / 8 }
+fn put_pair(vec: &VecRegs, r: Reg, bytes: &mut [u8])
+    requires { length bytes.old ≡ 16 }
     ensures same { (j : ℕ) → j < length bytes.old → get_or bytes.new j 0 ≡ get_or (read_z vec.now r) j 0 }
     ensures long { length bytes.new ≡ length bytes.old }
 {
     let _length = vec.length();
     let words = vec.z_words(r);
-    let parts = vec.length().bits() as usize / 128;
-    // 128 bits take no loop
-    if parts == 1 {
-        put_word(bytes, 0, words[0]);
-        put_word(bytes, 1, words[1]);
-        return;
-    }
-    for i in 0..2 * parts {
-        put_word(bytes, i, words[i]);
-    }
+    put_word(bytes, 0, words[0]);
+    put_word(bytes, 1, words[1]);
 }
 
-/// Puts the first bytes of a register, as many as there are places.
+/// Puts the first bytes of a register, as many as there are places. A register of 128 bits takes no call.
 #[inline(always)]
 pub(crate) fn put_bytes(vec: &VecRegs, r: Reg, bytes: &mut [u8])
     requires { length bytes.old ≤ vec.now.bits / 8 }
     ensures same { (j : ℕ) → j < length bytes.old → get_or bytes.new j 0 ≡ get_or (read_z vec.now r) j 0 }
     ensures long { length bytes.new ≡ length bytes.old }
 {
-    let count = vec.length().bits() / 8;
-    if bytes.len() == count as usize {
-        put_whole(vec, r, bytes);
+    if bytes.len() == 16 {
+        put_pair(vec, r, bytes);
     } else {
         put_some(vec, r, bytes);
     }
