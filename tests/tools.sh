@@ -8,7 +8,31 @@
 # 'N passed, M failed, K skipped'.
 set -u
 
+usage() {
+    cat <<'TEXT'
+usage: tests/tools.sh [PART ..]
+
+Tests what stands beside the proved program, all parts or those that are named, each by its title as one word. The parts:
+
+TEXT
+    sed -n 's/^    part "\([^"]*\)".*/  \1/p' tests/tools.sh
+    printf '\nstatus: 0 where no test fails, else 1; 2 where a part is named that there is not\n'
+}
+
 cd "$(dirname "$0")/.." || exit 1
+case ${1-} in
+    --help)
+        usage
+        exit 0
+        ;;
+esac
+for title in "$@"; do
+    grep -Fq "    part \"$title\" " tests/tools.sh || {
+        echo "tools.sh: there is no part '$title' (--help lists them)" >&2
+        exit 2
+    }
+done
+only=$(printf '%s\n' "$@")
 top=$(pwd)
 built=${SVEMU:-$(./svemu --program || { ./svemu --build && ./svemu --program; })}
 tool=${SVEMU_TOOL:-$(./svemu-tool --program || { ./svemu-tool --build && ./svemu-tool --program; })}
@@ -83,6 +107,7 @@ lacks() {
 # Runs a part of the tests, says how it went and how long it took, and on a terminal, before that, which one it is.
 part() {
     part_title=$1
+    [ -z "$only" ] || printf '%s\n' "$only" | grep -Fqx -e "$part_title" || return 0
     shift
     part_number=$((${part_number:-0} + 1))
     [ ! -t 1 ] || echo "part $part_number of $parts: $part_title .."
@@ -526,11 +551,6 @@ counts_of_words() {
 
 # The lines of the steps of these programs are those of `count`, `dis` and `run`, and stand where QEMU's steps do.
 traces_of_steps() {
-    tool=${SVEMU_TOOL:-$top/crates/svemu_tool/out/svemu_tool}
-    if [ ! -x "$tool" ]; then
-        skip "traces of steps" "svemu-tool isn't built here: rt ci does it"
-        return
-    fi
     ! lacks "traces of steps" python3 || return 0
     set --
     for name in gathers lanes spills strings structures; do
@@ -568,7 +588,8 @@ pages() {
     . tests/pages.sh
 }
 
-parts=$(grep -c '^    part "' tests/tools.sh)
+parts=$#
+[ "$parts" -gt 0 ] || parts=$(grep -c '^    part "' tests/tools.sh)
 if [ "$failed" -eq 0 ]; then
     part "the start and the release" start
     part "the cases over real files" cases_over_files
