@@ -265,7 +265,7 @@ what_a_test_found() {
     run "$diff_tool" --test --beside 256 "$scratch/tested/prefix_sum.elf"
     ended "a test at two lengths" 2 '' 'svemu-diff: --test is for one length, and takes neither --beside nor --in\n'
     run "$diff_tool" --test --vl 100 "$scratch/tested/prefix_sum.elf"
-    ended "a test at no length" 2 '' 'svemu-diff: --vl wants a number from 128 to 2048, not 100\n'
+    ended "a test at no length" 2 '' 'svemu-diff: --vl wants a multiple of 128 from 128 to 2048, not 100\n'
 }
 
 diff_of_a_stripped_program() {
@@ -283,7 +283,10 @@ diff_refusals() {
     run "$diff_tool" "$scratch/nosuch"
     ended "a missing program" 2 '' "svemu-diff: $scratch/nosuch couldn't be read: No such file or directory\n"
     run "$diff_tool" tests/tools.sh
-    ended "no ELF file" 2 '' "svemu-diff: tests/tools.sh isn't an ELF file of 64 bits whose tables are whole\n"
+    ended "no ELF file" 2 '' "svemu-diff: svemu-tool says: tests/tools.sh is no ELF file\n"
+    program_of_another_machine "$scratch/other.elf"
+    run "$diff_tool" "$scratch/other.elf"
+    ended "another machine's program" 2 '' "svemu-diff: svemu-tool says: $scratch/other.elf is an x86-64 program: built by the host's compiler?\n"
     for two in "--vl 256" "--beside 256"; do
         # shellcheck disable=SC2086 # words
         run "$diff_tool" $two "$probe"
@@ -294,7 +297,7 @@ diff_refusals() {
     run "$diff_tool" --vl 256 --beside 200 "$probe"
     ended "no length" 2 '' 'svemu-diff: --beside wants a multiple of 128 from 128 to 2048, not 200\n'
     run "$diff_tool" --vl 256 --beside much "$probe"
-    ended "no number" 2 '' 'svemu-diff: --beside wants a number from 128 to 2048, not much\n'
+    ended "no number" 2 '' 'svemu-diff: --beside wants a multiple of 128 from 128 to 2048, not much\n'
     run "$diff_tool" --budget much "$probe"
     ended "no budget" 2 '' 'svemu-diff: --budget wants a number from 0 to 18446744073709551615, not much\n'
     run env SVEMU="$scratch/nosuch" "$diff_tool" "$probe"

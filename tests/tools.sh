@@ -165,6 +165,11 @@ ended_like() {
     fi
 }
 
+# Writes a program as the host's compiler makes them: the tests' own with the number of x86-64, 62, as its machine.
+program_of_another_machine() {
+    { head -c 18 "$probe" && printf '\76\0' && tail -c +21 "$probe"; } >"$1"
+}
+
 # Whether each example writes what stands beside it.
 examples() {
     for example in memcpy strlen dot_product histogram lost_sums set_length prefix_sum; do
