@@ -247,6 +247,15 @@ what_a_test_found() {
     run "$diff_tool" "$scratch/tested/last_step.elf"
     holds "what --test is for" sh -c '[ "$1" -eq 1 ] && head -n 1 "$2" | grep -q "^a kernel.s test by kernel_test.h .*: with --test "' sh \
         "$status" "$scratch/output"
+    # It is told before the sweep, which takes a while.
+    printf '#!/bin/sh\n[ "$1" != sweep ] || exit 120\nexec "%s" "$@"\n' "$built" >"$scratch/no-sweep"
+    chmod +x "$scratch/no-sweep"
+    run env SVEMU="$scratch/no-sweep" "$diff_tool" "$scratch/tested/last_step.elf"
+    holds "what --test is for, before the sweep" sh -c '[ "$1" -eq 2 ] && [ "$(wc -l <"$2")" -eq 1 ] &&
+        grep -q "^a kernel.s test by kernel_test.h .*: with --test " "$2" && grep -qx "svemu-diff: there is no memory" "$3"' sh \
+        "$status" "$scratch/output" "$scratch/errors"
+    run env SVEMU="$scratch/no-sweep" "$diff_tool" --in last_step "$scratch/tested/last_step.elf"
+    ended "not where the kernel is named" 2 '' 'svemu-diff: there is no memory\n'
     run "$diff_tool" "$scratch/tested/full_predicate.elf"
     holds "the call that traps is named for svemu-lanes" sh -c 'tail -n 1 "$1" | grep -q "^draw it: .* --in full_predicate --call 3 --vl 128 "' sh "$scratch/output"
     holds "an over-read of a guarded buffer" sh -c '[ "$1" -eq 1 ] && grep -Eqx "$3" "$2" && grep -q "^what to do: .*Over-reads" "$2"' \
