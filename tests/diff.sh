@@ -215,6 +215,18 @@ where_it_traps() {
     holds "a trap at two lengths" sh -c '[ "$1" -eq 1 ] && sed -n 1p "$2" | grep -qx "$3" && grep -Eq "$4" "$2" && grep -q "$5" "$2"' \
         sh "$status" "$scratch/output" "384 and 512 bits don't part: both end by the same kind of trap" \
         '^by brk #0 at broken\+0x[0-9a-f]+ \(parting\.c:[0-9]+\)$' "^what to do: .*below 'trap break'$"
+    # Of a word that no compiler's flag makes, and of one in a program that is begun by a C library.
+    for start in begin __libc_start_main; do
+        printf '__attribute__((noinline)) void %s(void) { __asm__ volatile(".inst 0x4e010c20"); }\nint main(void) { %s(); return 0; }\n' "$start" "$start" \
+            >"$scratch/parting/word.c"
+        make -s -B -C "$scratch/parting" CC="$compiler" DEBUG=-g SMALL=-Wl,--build-id=none word.elf
+        run "$diff_tool" "$scratch/parting/word.elf"
+        case $start in
+            begin) told="what to do: svemu-runner tells what the word is; .*" ;;
+            *) told="what to do: link it without its C library, which svemu doesn't run; 'What you need' of docs/TESTING_YOUR_CODE.md says what is in its place" ;;
+        esac
+        holds "an undefined word in $start" sh -c '[ "$1" -eq 1 ] && grep -Eqx -e "$3" "$2"' sh "$status" "$scratch/output" "$told"
+    done
     run "$diff_tool" "$parting" status
     ended "a status that isn't 0" 0 'the output and the ending are the same at all sixteen lengths: exit 3\n' ''
 }

@@ -84,6 +84,7 @@ packages_of() {
             man) echo man-db ;;
             callgrind_annotate) echo valgrind ;;
             genhtml) echo lcov ;;
+            llvm-addr2line) echo llvm ;;
             ctest) echo cmake ;;
             cc) echo gcc ;;
             *) echo "$word" ;;
@@ -246,9 +247,45 @@ told_of_help() {
         # shellcheck disable=SC2016 # the inner shell expands them
         holds "$1: '$words' on a terminal" sh -c '[ "$1" -eq 121 ] && cmp "$2" "$3"' sh "$status" "$scratch/output" "$scratch/refusal"
     done
-    ! lacks "on a terminal" python3 || return 0
-    run python3 tests/terminal.py "$2" run "$probe" --vl 100 --budget 1
-    ended "$1: another refusal on a terminal" 121 'refused words BadLength at 3\n' ''
+}
+
+# Whether a person at a terminal is told where the manual has what is refused, and nobody else; and whether nothing is
+# said of a program's own status, and a pipe is read once.
+told_of_manual() {
+    manual=$top/docs/MANUAL.md
+    while IFS='|' read -r status_wanted refusal told words; do
+        # shellcheck disable=SC2086 # words
+        run ./svemu $words
+        printf '%s' "${refusal:+$refusal
+}" >"$scratch/refusal"
+        holds "'$words' is refused" sh -c '[ "$1" -eq "$2" ] && cmp "$3" "$4"' sh "$status" "$status_wanted" "$scratch/errors" "$scratch/refusal"
+        echo "svemu: $told" >>"$scratch/refusal"
+        # shellcheck disable=SC2086
+        run python3 tests/terminal.py ./svemu $words
+        holds "'$words' on a terminal" sh -c '[ "$1" -eq "$2" ] && diff "$3" "$4"' sh "$status" "$status_wanted" "$scratch/output" "$scratch/refusal"
+    done <<END
+121|refused words BadLength at 3|'Refused lines' of $manual says what that is, and what to do|run $probe --vl 100 --budget 1
+121|refused words BadNumber at 5|'Refused lines' of $manual says what that is, and what to do|run $probe --vl 128 --budget 1e9
+121|refused words MissingBudget at 2|'Refused lines' of $manual says what that is, and what to do|sweep $probe
+121|refused words BadNumber at 1|'Refused lines' of $manual says what that is, and what to do|load x
+122|refused image BadMagic|'What you see' of $manual says what that is, and what to do|run README.md --budget 100000000 --vl 128
+122|refused image TooManyPages|'What you see' of $manual says what that is, and what to do|run $probe --budget 5 --vl 128 --pages 3
+122|refused image BadMagic|'What you see' of $manual says what that is, and what to do|dis README.md
+122|refused schedule BadNumber at line 3|'What you see' of $manual says what that is, and what to do|threads $probe README.md --vl 128 --budget 5
+126||a file isn't there, or can't be read ('What you see' of $manual)|run $scratch/nosuch --vl 128 --budget 5
+126||a file isn't there, or can't be read ('What you see' of $manual)|asm $scratch/nosuch
+END
+    printf 'mov x0, #122\nmov x8, #93\nsvc #0\n' >"$scratch/own.s"
+    "$built" asm "$scratch/own.s" >"$scratch/own.elf"
+    run python3 tests/terminal.py ./svemu run "$scratch/own.elf" --vl 128 --budget 100
+    holds "a program's own status on a terminal" sh -c '[ "$1" -eq 122 ] && head -n 1 "$2" | grep -qx "exit 122 after 3 steps" &&
+        [ "$(wc -l <"$2")" -eq 86 ]' sh "$status" "$scratch/output"
+    rm -f "$scratch/turns-once"
+    mkfifo "$scratch/turns-once"
+    echo '0 1' >"$scratch/turns-once" &
+    run timeout 20 python3 tests/terminal.py ./svemu threads "$scratch/own.elf" "$scratch/turns-once" --vl 128 --budget 100
+    wait
+    holds "a pipe is read once" sh -c '[ "$1" -eq 122 ] && head -n 1 "$2" | grep -qx "exit 122 after 3 steps"' sh "$status" "$scratch/output"
 }
 
 # The tools that were installed, by the program that was.
@@ -291,6 +328,7 @@ help_here() {
         return
     fi
     told_of_help "here" ./svemu
+    lacks "on a terminal" python3 || told_of_manual
 }
 
 # That what a start takes is printed, whatever it is.

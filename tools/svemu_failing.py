@@ -11,6 +11,8 @@ from svemu_program import PAGE
 # The table of examples/guest.h, and the record of examples/kernel_test.h.
 GUARDS, DIFFERENCE = "guarded_buffers", "kernel_test_difference"
 GUARDS_TOLD = 256
+# A program that is linked with a C library is begun by this function of it.
+C_LIBRARY = "__libc_start_main"
 # A page of svemu-lanes has so many steps before a trap, or of the call that ends by it.
 DRAWN, CALL_DRAWN = 40, 1000
 TRAP = re.compile(r"trap ([-a-z]+) 0x([0-9a-f]+) at 0x([0-9a-f]+)$")
@@ -55,10 +57,13 @@ def guard_of(run, step, address):
     return ""
 
 
-def what_to_do(kind, guarded):
+def what_to_do(kind, guarded, program):
     if guarded:
         return ("let a predicate of the count (whilelt) govern it; 'Over-reads' of docs/TESTING_YOUR_CODE.md has an "
                 "example")
+    if kind == "undefined" and any(name.startswith(C_LIBRARY) for name, _ in program.labels.values()):
+        return ("link it without its C library, which svemu doesn't run; 'What you need' of docs/TESTING_YOUR_CODE.md says "
+                "what is in its place")
     if kind == "undefined":
         return ("svemu-runner tells what the word is; the flags of docs/TESTING_YOUR_CODE.md keep compilers from such "
                 "words")
@@ -81,7 +86,7 @@ def trap(run, functions):
              f"by {instruction(run, pc)}"]
     if guarded:
         lines.append(f"{address:#x} is {guarded}")
-    return [*lines, f"what to do: {what_to_do(kind, bool(guarded))}", drawn(run, stop.step, calls, frame)]
+    return [*lines, f"what to do: {what_to_do(kind, bool(guarded), run.program)}", drawn(run, stop.step, calls, frame)]
 
 
 def drawn(run, step, calls, frame):
