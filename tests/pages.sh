@@ -297,6 +297,10 @@ page_refusals() {
     refused "a bad watch" "--watch wants a place and a number of bytes with a comma between, not 4" --watch 4 "$probe"
     refused "no such file" ".*/nosuch couldn't be read" "$scratch/nosuch"
     refused "no image" "svemu-tool says: .*/empty is no ELF file" "$scratch/empty"
+    before=$SVEMU
+    SVEMU=$scratch/nosuch
+    refused "no svemu" "there is no program $scratch/nosuch \(--help says where it is looked for\)" "$probe"
+    SVEMU=$before
     printf '#!/bin/sh\necho "svemu: trace is no command: see svemu-tool --help" >&2\nexit 121\n' >"$scratch/no_trace"
     chmod +x "$scratch/no_trace"
     run env SVEMU_TOOL="$scratch/no_trace" "$lanes" "$probe"

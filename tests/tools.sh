@@ -204,7 +204,9 @@ own_kernel() {
         [ "$(grep -cE "^vl [0-9]+ exit 0 after [0-9]+ steps out 38 err 0 same$" "$2")" -eq 16 ]' sh "$status" "$scratch/output"
     if ! lacks "symbols of a program of one's own" python3; then
         run tools/svemu-diff made/mine.elf
-        ended "its lengths don't part" 0 'the output and the ending are the same at all sixteen lengths\n' ''
+        ended "its lengths don't part" 0 "a kernel's test by kernel_test.h takes other counts at other lengths: with --test svemu-diff tells which step made one fail
+the output and the ending are the same at all sixteen lengths
+" ''
         run env PATH="$scratch/own/bin:$PATH" XDG_CACHE_HOME="$scratch/own/cache" SVEMU="$built" SVEMU_TOOL="$tool" tools/svemu-cover --open made/mine.elf
         holds "what ran of it is drawn" sh -c 'cat "$3"; [ "$1" -eq 0 ] && grep -q "dot_product" "$2"/cache/svemu/pages/*.html' sh "$status" "$scratch/own" "$scratch/errors"
     fi

@@ -255,12 +255,24 @@ def find_svemu():
     tools = os.path.dirname(os.path.realpath(__file__))
     beside = [os.path.join(tools, "svemu"), os.path.join(tools, "..", "svemu")]
     if os.environ.get("SVEMU"):
-        found = shutil.which(os.environ["SVEMU"])
+        found = named_svemu()
     else:
         found = next((file for file in beside if os.path.isfile(file) and os.access(file, os.X_OK)), shutil.which("svemu"))
     if found is None:
-        raise Failure(f"there is no program {os.environ.get('SVEMU') or 'svemu'} (--help says where it is looked for)")
+        raise no_program("svemu")
     return program_of(found)
+
+
+def named_svemu():
+    """The svemu that the variable SVEMU names."""
+    found = shutil.which(os.environ["SVEMU"])
+    if found is None:
+        raise no_program(os.environ["SVEMU"])
+    return found
+
+
+def no_program(name):
+    return Failure(f"there is no program {name} (--help says where it is looked for)")
 
 
 def find_tool():
@@ -270,11 +282,10 @@ def find_tool():
     else:
         tools = os.path.dirname(os.path.realpath(__file__))
         beside = [os.path.join(tools, "svemu-tool"), os.path.join(tools, "..", "svemu-tool")]
-        svemu = shutil.which(os.environ.get("SVEMU", "")) if os.environ.get("SVEMU") else None
-        beside = [os.path.join(os.path.dirname(svemu), "svemu-tool")] if svemu else beside
+        beside = [os.path.join(os.path.dirname(named_svemu()), "svemu-tool")] if os.environ.get("SVEMU") else beside
         found = next((file for file in beside if os.path.isfile(file) and os.access(file, os.X_OK)), shutil.which("svemu-tool"))
     if found is None:
-        raise Failure(f"there is no program {os.environ.get('SVEMU_TOOL') or 'svemu-tool'} (--help says where it is looked for)")
+        raise no_program(os.environ.get("SVEMU_TOOL") or "svemu-tool")
     return program_of(found)
 
 
