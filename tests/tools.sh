@@ -1,11 +1,11 @@
 #!/bin/sh
 # Tests what stands beside the proved program: its start and its release, the cases over real files, the examples, those
 # of several threads under schedules, the listings, what the documents show, the runner, the manual page, the
-# installation, the recipes of docs/TESTING_YOUR_CODE.md, refused memory and random input. The program is the one that
-# SVEMU names, else the one that ./svemu runs, and svemu-tool that which SVEMU_TOOL names, else the one that ./svemu-tool
-# runs; no kit is needed. Each part has a line with its seconds, and what is
-# skipped a line that says why and what to install; on a terminal a line also says when a part begins. The last line is
-# 'N passed, M failed, K skipped'.
+# installation, the recipes of docs/TESTING_YOUR_CODE.md, refused memory and random input; or the parts that are named
+# alone. The program is the one that SVEMU names, else the one that ./svemu runs, and svemu-tool that which SVEMU_TOOL
+# names, else the one that ./svemu-tool runs; no kit is needed. Each part has a line with its seconds, and what is skipped
+# a line that says why and what to install; on a terminal a line also says when a part begins. The last line is 'N passed,
+# M failed, K skipped'.
 set -u
 
 usage() {
