@@ -375,6 +375,8 @@ schedules_refused() {
     ended "a seed for all schedules" 2 '' 'svemu-schedules: --seed is for schedules by chance, and --bound tries all\n'
     run "$schedules" --bound 2 --budget 65537 "$probe"
     ended "too many steps to follow" 2 '' 'svemu-schedules: --bound wants a budget of at most 65536 steps, not 65537\n'
+    run env SVEMU_BUDGET=65537 "$schedules" --bound 2 "$probe"
+    ended "too many by the variable" 2 '' 'svemu-schedules: --bound wants a budget of at most 65536 steps, not 65537 of SVEMU_BUDGET\n'
     run "$schedules" --bound 2 --budget 100 examples/lost_update.elf
     ended "a program that doesn't end" 2 '' \
         "svemu-schedules: without a switch the program doesn't end within 100 steps (--budget takes more)\n"
