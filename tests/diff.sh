@@ -222,7 +222,7 @@ where_it_traps() {
         make -s -B -C "$scratch/parting" CC="$compiler" DEBUG=-g SMALL=-Wl,--build-id=none word.elf
         run "$diff_tool" "$scratch/parting/word.elf"
         case $start in
-            begin) told="what to do: svemu-runner tells what the word is; .*" ;;
+            begin) told="what to do: the word is Advanced SIMD; 'What leaves the table' of docs/TESTING_YOUR_CODE.md says what to do" ;;
             *) told="what to do: link it without its C library, which svemu doesn't run; 'What you need' of docs/TESTING_YOUR_CODE.md says what is in its place" ;;
         esac
         holds "an undefined word in $start" sh -c '[ "$1" -eq 1 ] && grep -Eqx -e "$3" "$2"' sh "$status" "$scratch/output" "$told"

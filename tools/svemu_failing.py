@@ -2,10 +2,11 @@
 
 import re
 import struct
+import subprocess
 from typing import NamedTuple
 
 from svemu_calls import Calls, bytes_at, lane_of, last_branch, last_change, last_writer, stops_at, times
-from svemu_pages import ENDING, Failure
+from svemu_pages import ENDING, Failure, find_tool
 from svemu_program import PAGE
 
 # The table of examples/guest.h, and the record of examples/kernel_test.h.
@@ -57,7 +58,18 @@ def guard_of(run, step, address):
     return ""
 
 
-def what_to_do(kind, guarded, program):
+def family_of(text):
+    """What kind of instruction a word is that has no text but `.word`, by svemu-tool; nothing where that can't be asked."""
+    if not text.startswith(".word "):
+        return ""
+    try:
+        done = subprocess.run([find_tool(), "family", text.removeprefix(".word ")], stdin=subprocess.DEVNULL, capture_output=True, check=False)
+    except (OSError, Failure):
+        return ""
+    return done.stdout.decode(errors="replace").rstrip("\n").partition(" ")[2] if done.returncode == 0 else ""
+
+
+def what_to_do(kind, guarded, program, text):
     if guarded:
         return ("let a predicate of the count (whilelt) govern it; 'Over-reads' of docs/TESTING_YOUR_CODE.md has an "
                 "example")
@@ -65,8 +77,9 @@ def what_to_do(kind, guarded, program):
         return ("link it without its C library, which svemu doesn't run; 'What you need' of docs/TESTING_YOUR_CODE.md says "
                 "what is in its place")
     if kind == "undefined":
-        return ("svemu-runner tells what the word is; the flags of docs/TESTING_YOUR_CODE.md keep compilers from such "
-                "words")
+        family = family_of(text)
+        return (f"the word is {family}" if family else "svemu-runner tells what the word is") + \
+            "; 'What leaves the table' of docs/TESTING_YOUR_CODE.md says what to do"
     return f"'What you see' of docs/MANUAL.md has it below 'trap {kind}'"
 
 
@@ -86,7 +99,7 @@ def trap(run, functions):
              f"by {instruction(run, pc)}"]
     if guarded:
         lines.append(f"{address:#x} is {guarded}")
-    return [*lines, f"what to do: {what_to_do(kind, bool(guarded), run.program)}", drawn(run, stop.step, calls, frame)]
+    return [*lines, f"what to do: {what_to_do(kind, bool(guarded), run.program, run.program.texts.get(pc, ''))}", drawn(run, stop.step, calls, frame)]
 
 
 def drawn(run, step, calls, frame):
