@@ -450,6 +450,20 @@ trusted_definitions() {
     holds "the definitions that the headline reads" tools/trusted
 }
 
+# What one instruction costs, of the program and beside itself; what isn't here or asks for nothing is told.
+costs_of_instructions() {
+    ! lacks "what instructions cost" python3 valgrind aarch64-linux-gnu-as aarch64-linux-gnu-ld || return 0
+    holds "what nop costs, twice" sh -c \
+        'python3 tests/costs.py "$1" "$1" --only "$2" | grep -Eq "^[|] .nop. [|] ([0-9]+) \1 [|]$"' sh "$SVEMU" nop
+    holds "a row of vectors" sh -c \
+        'python3 tests/costs.py "$1" --only "$2" --bits 256 512 | grep -Eq "^[|] .str p0, .x0.. [|] [0-9]+ [|] [0-9]+ [|]$"' \
+        sh "$SVEMU" "str p0"
+    run python3 tests/costs.py "$scratch/nosuch"
+    ended "no program to measure" 1 '' "costs.py: $scratch/nosuch is no program\n"
+    run python3 tests/costs.py "$SVEMU" --only nosuch
+    ended "no row" 1 '' "costs.py: no row has 'nosuch'\n"
+}
+
 # The names, signatures, fields and variants that other programs find at the roots of the crates; and that a list which
 # says otherwise is told.
 public_surface() {
@@ -656,6 +670,7 @@ if [ "$failed" -eq 0 ]; then
     part "who is told of --help" help_here
     part "what beginners are told" beginners
     part "what a start takes" times_of_a_start
+    part "what instructions cost" costs_of_instructions
     part "make install" installation
     part "the manual page" manual_page
     part "the recipes" recipes
