@@ -17,7 +17,7 @@ isn't
 
 DOCUMENTS = ['README.md', 'docs/MANUAL.md', 'docs/READING.md', 'docs/TESTING_YOUR_CODE.md', 'examples/README.md']
 COMMAND = re.compile(r'(?:\./svemu|svemu(?:-\w+)?|tools/[\w-]+|tests/\S+|make|apt|sh|python3|rt|aarch64-linux-gnu-\S+|clang(?:\+\+)?'
-                     r'|gcc|cmake|ctest|lit|qemu-aarch64)(?: |$)')
+                     r'|llvm-\S+|gcc|cmake|ctest|lit|qemu-aarch64)(?: |$)')
 LINE = re.compile(r'(run \d+|by [^:]+|not, [^:]+): (.+)')
 
 

@@ -205,6 +205,8 @@ def main():
     for program in filter(None, (given.svemu, given.other)):
         if not os.access(program, os.X_OK):
             sys.exit(f'costs.py: {program} is no program')
+    if given.only not in SCALARS + VECTORS:
+        sys.exit(f"costs.py: no row has '{given.only}'")
     marked = 0
     with tempfile.TemporaryDirectory() as folder:
         for rows, lengths in ((SCALARS, [128]), (VECTORS, given.bits)):

@@ -3,8 +3,7 @@
 usage: counts.py TOOL PROGRAM ..
 
 Of each program, at 256 bits: the counts add up to the steps that the ending's line tells; at all lengths each column
-adds up to those of its line. Where `qemu-aarch64` is installed, it runs the program with one instruction in each block
-(`-singlestep`), and tells by `-d exec,nochain` where each block begins: the counts of these addresses have to be the
+adds up to those of its line. Where `qemu-aarch64` is installed, the counts of the addresses of its steps have to be the
 same. Without it that part is skipped, and so it is where QEMU itself doesn't end as svemu does.
 """
 import collections
@@ -13,12 +12,13 @@ import re
 import shutil
 import subprocess
 import sys
-import tempfile
+
+sys.dont_write_bytecode = True
+from qemu_steps import in_qemu  # noqa: E402
 
 BUDGET = '1000000000'
 BITS = 256
 ENDING = re.compile(r'^(?:vl (\d+) )?(exit (\d+)|trap .*|spent) after (\d+) steps$')
-TRACE = re.compile(rb'^Trace \d+: 0x[0-9a-f]+ \[[0-9a-f]+/([0-9a-f]+)/')
 
 
 def counted(tool, program, length):
@@ -36,18 +36,6 @@ def counted(tool, program, length):
             counts[int(address, 16)] = [int(number) for number in numbers]
     assert list(counts) == sorted(counts), 'the addresses are in order'
     return counts, endings
-
-
-def traced(program):
-    """QEMU's counts by address, and its status."""
-    with tempfile.TemporaryDirectory() as folder:
-        log = os.path.join(folder, 'log')
-        answer = subprocess.run(
-            ['qemu-aarch64', '-cpu', f'max,sve-max-vq={BITS // 128}', '-singlestep', '-d', 'exec,nochain',
-             '-D', log, program], stdin=subprocess.DEVNULL, capture_output=True)
-        with open(log, 'rb') as lines:
-            found = (TRACE.match(line) for line in lines)
-            return collections.Counter(int(trace[1], 16) for trace in found if trace), answer.returncode
 
 
 def main():
@@ -71,7 +59,8 @@ def main():
             wrong += 1
         if not qemu:
             continue
-        theirs, status = traced(program)
+        steps, status = in_qemu(program, BITS)
+        theirs = collections.Counter(steps)
         if status != endings[0][0]:
             print(f'skipped: {name}: QEMU ends by {status}, and svemu by {endings[0][0]}')
             continue

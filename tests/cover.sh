@@ -78,7 +78,16 @@ covered_refusals() {
     run "$cover" --depth 3 examples/strlen.elf
     ended_like "an option that there isn't" 2 'svemu-cover: there is no option --depth .*'
     run "$cover" --vl 100 "$probe"
-    ended_like "a length that there isn't" 2 'svemu-cover: .*'
+    ended "a length that there isn't" 2 '' 'svemu-cover: --vl wants a multiple of 128 from 128 to 2048, not 100\n'
+    run env SVEMU_BUDGET=1e9 "$cover" "$probe"
+    ended "a variable that is no number" 2 '' 'svemu-cover: SVEMU_BUDGET wants a number from 0 to 18446744073709551615, not 1e9\n'
+    run "$cover" --symbols examples/lost_sums.symbols --budget 0 examples/lost_sums.elf
+    ended "no steps" 2 '' 'svemu-cover: no instruction of a function ran; the program ended by spent\n'
+    run "$cover" README.md
+    ended "no program" 2 '' 'svemu-cover: svemu-tool says: README.md is no ELF file\n'
+    program_of_another_machine "$scratch/other.elf"
+    run "$cover" "$scratch/other.elf"
+    ended "another machine's program" 2 '' "svemu-cover: svemu-tool says: $scratch/other.elf is an x86-64 program: built by the host's compiler?\n"
     run "$cover" --least 101 "$probe"
     ended_like "more than all" 2 'svemu-cover: --least wants a number from 0 to 100, not 101'
     run "$cover" "$scratch/nosuch"

@@ -215,6 +215,18 @@ where_it_traps() {
     holds "a trap at two lengths" sh -c '[ "$1" -eq 1 ] && sed -n 1p "$2" | grep -qx "$3" && grep -Eq "$4" "$2" && grep -q "$5" "$2"' \
         sh "$status" "$scratch/output" "384 and 512 bits don't part: both end by the same kind of trap" \
         '^by brk #0 at broken\+0x[0-9a-f]+ \(parting\.c:[0-9]+\)$' "^what to do: .*below 'trap break'$"
+    # Of a word that no compiler's flag makes, and of one in a program that is begun by a C library.
+    for start in begin __libc_start_main; do
+        printf '__attribute__((noinline)) void %s(void) { __asm__ volatile(".inst 0x4e010c20"); }\nint main(void) { %s(); return 0; }\n' "$start" "$start" \
+            >"$scratch/parting/word.c"
+        make -s -B -C "$scratch/parting" CC="$compiler" DEBUG=-g SMALL=-Wl,--build-id=none word.elf
+        run "$diff_tool" "$scratch/parting/word.elf"
+        case $start in
+            begin) told="what to do: the word is Advanced SIMD; 'What leaves the table' of docs/TESTING_YOUR_CODE.md says what to do" ;;
+            *) told="what to do: link it without its C library, which svemu doesn't run; 'What you need' of docs/TESTING_YOUR_CODE.md says what is in its place" ;;
+        esac
+        holds "an undefined word in $start" sh -c '[ "$1" -eq 1 ] && grep -Eqx -e "$3" "$2"' sh "$status" "$scratch/output" "$told"
+    done
     run "$diff_tool" "$parting" status
     ended "a status that isn't 0" 0 'the output and the ending are the same at all sixteen lengths: exit 3\n' ''
 }
@@ -247,6 +259,15 @@ what_a_test_found() {
     run "$diff_tool" "$scratch/tested/last_step.elf"
     holds "what --test is for" sh -c '[ "$1" -eq 1 ] && head -n 1 "$2" | grep -q "^a kernel.s test by kernel_test.h .*: with --test "' sh \
         "$status" "$scratch/output"
+    # It is told before the sweep, which takes a while.
+    printf '#!/bin/sh\n[ "$1" != sweep ] || exit 120\nexec "%s" "$@"\n' "$built" >"$scratch/no-sweep"
+    chmod +x "$scratch/no-sweep"
+    run env SVEMU="$scratch/no-sweep" "$diff_tool" "$scratch/tested/last_step.elf"
+    holds "what --test is for, before the sweep" sh -c '[ "$1" -eq 2 ] && [ "$(wc -l <"$2")" -eq 1 ] &&
+        grep -q "^a kernel.s test by kernel_test.h .*: with --test " "$2" && grep -qx "svemu-diff: there is no memory" "$3"' sh \
+        "$status" "$scratch/output" "$scratch/errors"
+    run env SVEMU="$scratch/no-sweep" "$diff_tool" --in last_step "$scratch/tested/last_step.elf"
+    ended "not where the kernel is named" 2 '' 'svemu-diff: there is no memory\n'
     run "$diff_tool" "$scratch/tested/full_predicate.elf"
     holds "the call that traps is named for svemu-lanes" sh -c 'tail -n 1 "$1" | grep -q "^draw it: .* --in full_predicate --call 3 --vl 128 "' sh "$scratch/output"
     holds "an over-read of a guarded buffer" sh -c '[ "$1" -eq 1 ] && grep -Eqx "$3" "$2" && grep -q "^what to do: .*Over-reads" "$2"' \
@@ -265,7 +286,7 @@ what_a_test_found() {
     run "$diff_tool" --test --beside 256 "$scratch/tested/prefix_sum.elf"
     ended "a test at two lengths" 2 '' 'svemu-diff: --test is for one length, and takes neither --beside nor --in\n'
     run "$diff_tool" --test --vl 100 "$scratch/tested/prefix_sum.elf"
-    ended "a test at no length" 2 '' 'svemu-diff: --vl wants a number from 128 to 2048, not 100\n'
+    ended "a test at no length" 2 '' 'svemu-diff: --vl wants a multiple of 128 from 128 to 2048, not 100\n'
 }
 
 diff_of_a_stripped_program() {
@@ -283,7 +304,10 @@ diff_refusals() {
     run "$diff_tool" "$scratch/nosuch"
     ended "a missing program" 2 '' "svemu-diff: $scratch/nosuch couldn't be read: No such file or directory\n"
     run "$diff_tool" tests/tools.sh
-    ended "no ELF file" 2 '' "svemu-diff: tests/tools.sh isn't an ELF file of 64 bits whose tables are whole\n"
+    ended "no ELF file" 2 '' "svemu-diff: svemu-tool says: tests/tools.sh is no ELF file\n"
+    program_of_another_machine "$scratch/other.elf"
+    run "$diff_tool" "$scratch/other.elf"
+    ended "another machine's program" 2 '' "svemu-diff: svemu-tool says: $scratch/other.elf is an x86-64 program: built by the host's compiler?\n"
     for two in "--vl 256" "--beside 256"; do
         # shellcheck disable=SC2086 # words
         run "$diff_tool" $two "$probe"
@@ -294,7 +318,7 @@ diff_refusals() {
     run "$diff_tool" --vl 256 --beside 200 "$probe"
     ended "no length" 2 '' 'svemu-diff: --beside wants a multiple of 128 from 128 to 2048, not 200\n'
     run "$diff_tool" --vl 256 --beside much "$probe"
-    ended "no number" 2 '' 'svemu-diff: --beside wants a number from 128 to 2048, not much\n'
+    ended "no number" 2 '' 'svemu-diff: --beside wants a multiple of 128 from 128 to 2048, not much\n'
     run "$diff_tool" --budget much "$probe"
     ended "no budget" 2 '' 'svemu-diff: --budget wants a number from 0 to 18446744073709551615, not much\n'
     run env SVEMU="$scratch/nosuch" "$diff_tool" "$probe"

@@ -1,9 +1,11 @@
 # Tests that the commands which the documents show write what stands below them: lines behind four blanks, a command
 # behind `$ `.
 
-# Cuts a document into its commands and what each should write: the files 1.command, 1.wanted and so on in a folder.
+# Cuts a document into its commands and what each should write: the files 1.command, 1.wanted and so on in a folder. The
+# one that runs these tests is left out.
 samples_of() {
     awk -v to="$2/" '
+        /^    \$ make check$/ { open = 0; next }
         /^    \$ / {
             number++
             print substr($0, 7) >(to number ".command")

@@ -254,7 +254,7 @@ curve_refusals() {
     refused "a curve of one length" "there is no option --vl \(--help lists them\)" --vl 256 "$probe"
     refused "a bad budget" "--budget wants a number from 0 to 18446744073709551615, not x" --budget x "$probe"
     refused "no file for a curve" ".*/nosuch couldn't be read" "$scratch/nosuch"
-    refused "no image for a curve" "svemu says: refused image TooShort \(svemu-runner tells what the file is\)" "$scratch/empty"
+    refused "no image for a curve" "svemu-tool says: .*/empty is no ELF file" "$scratch/empty"
     before=$SVEMU
     for change in 's/^vl 384 exit 0 after 1367/vl 384 exit 0 after 1368/' 's/parts at 4$/parts at 5/' 's/^\(vl 512 .*\) out 11/\1 out 12/' 's/^\(vl 128 .*\) err 0/\1 err 1/'; do
         sweeping "\"$before\" \"\$@\" | sed '$change'"
@@ -297,6 +297,10 @@ page_refusals() {
     refused "a bad watch" "--watch wants a place and a number of bytes with a comma between, not 4" --watch 4 "$probe"
     refused "no such file" ".*/nosuch couldn't be read" "$scratch/nosuch"
     refused "no image" "svemu-tool says: .*/empty is no ELF file" "$scratch/empty"
+    before=$SVEMU
+    SVEMU=$scratch/nosuch
+    refused "no svemu" "there is no program $scratch/nosuch \(--help says where it is looked for\)" "$probe"
+    SVEMU=$before
     printf '#!/bin/sh\necho "svemu: trace is no command: see svemu-tool --help" >&2\nexit 121\n' >"$scratch/no_trace"
     chmod +x "$scratch/no_trace"
     run env SVEMU_TOOL="$scratch/no_trace" "$lanes" "$probe"

@@ -163,12 +163,17 @@ trying_schedules() {
         "$scratch/output" "$scratch/recipe"
 }
 
-# The first section: a kernel in C, and a planted bug that is found.
-five_minutes() {
+# A new folder with the kernel of the first section and its test.
+five_minutes_files() {
     rm -rf "$scratch/recipe"
     mkdir "$scratch/recipe"
     block 'The kernel, `kernel.c`:' >"$scratch/recipe/kernel.c"
     block 'Its test calls it and says how many numbers are wrong, `test.c`:' >"$scratch/recipe/test.c"
+}
+
+# The first section: a kernel in C, and a planted bug that is found.
+five_minutes() {
+    five_minutes_files
     block "$2" >"$scratch/build"
     block "Build it and run it, at 384 bits and at all sixteen lengths:" | cat "$scratch/build" - >"$scratch/commands"
     block "and look for it:" | cat "$scratch/build" - >"$scratch/planting"
@@ -325,9 +330,13 @@ reading_a_trap() {
         holds "the address in the page" grep -q 'cnt[[:space:]]*v0.8b' "$scratch/output"
     fi
     sed 's/ -O2 / -g&/' "$scratch/build" >"$scratch/commands"
-    (cd "$scratch/recipe" && SVEMU_TOP="$checkout" sh -eu "$scratch/commands" && aarch64-linux-gnu-addr2line -f -e popcount.elf "0x$address") \
-        >"$scratch/output" 2>&1
-    holds "addr2line names the function and the line" sh -c 'grep -qx main "$1" && grep -q "popcount.c:6" "$1"' sh "$scratch/output"
+    # GNU's addr2line goes by the lines of DWARF 4.
+    for by in llvm-addr2line aarch64-linux-gnu-addr2line; do
+        ! lacks "lines by $by" "$by" || continue
+        [ "$by" = llvm-addr2line ] || sed -i 's/ -g / -gdwarf-4 /' "$scratch/commands"
+        (cd "$scratch/recipe" && SVEMU_TOP="$checkout" sh -eu "$scratch/commands" && "$by" -f -e popcount.elf "0x$address") >"$scratch/output" 2>&1
+        holds "$by names the function and the line" sh -c 'grep -qx main "$1" && grep -q "popcount.c:6" "$1"' sh "$scratch/output"
+    done
     holds "objdump names it" sh -c "aarch64-linux-gnu-objdump -d --start-address=0x$address --stop-address=\$((0x$address + 4)) '$scratch/recipe/popcount.elf' | grep -q 'cnt[[:space:]]*v0.8b'"
 }
 
@@ -359,12 +368,26 @@ cmake_recipe() {
         holds "CMake by clang" sh -c "[ $status -eq 0 ] && grep -q '100% tests passed, 0 tests failed out of 8' '$scratch/output'"
     fi
     recipe CMake "Run with CMake:" toolchain.cmake CMakeLists.txt sum.c scaled.cc
+    cp "$scratch/recipe/CMakeLists.txt" "$scratch/lists"
     holds "CMake" sh -c "[ $status -eq 0 ] && grep -q '100% tests passed, 0 tests failed out of 8' '$scratch/output'"
     # A test that fails is seen.
     sed 's/sum == 500500/sum != 500500/' "$scratch/recipe/sum.c" >"$scratch/wrong.c"
     cp "$scratch/wrong.c" "$scratch/recipe/sum.c"
     run env SVEMU_TOP="$checkout" sh -c 'cmake --build "$1" && cd "$1" && ctest' sh "$scratch/recipe/build"
     holds "CMake with a wrong program" sh -c "[ $status -ne 0 ] && grep -q '50% tests passed, 4 tests failed out of 8' '$scratch/output'"
+    # A program of two files, by the lines of the page in the place of the one that begins its loop.
+    five_minutes_files
+    block "A program of two files names both, as the kernel of the first section with its test, and stands in the \`foreach\`:" >"$scratch/two"
+    for file in toolchain.cmake sum.c scaled.cc; do
+        block "\`$file\`:" >"$scratch/recipe/$file"
+    done
+    sed "/^foreach(program/{r $scratch/two
+        d;}" "$scratch/lists" >"$scratch/recipe/CMakeLists.txt"
+    block "Run with CMake:" >"$scratch/commands"
+    cd "$scratch/recipe" || exit 1
+    run env SVEMU_TOP="$checkout" sh -eux "$scratch/commands"
+    cd "$top" || exit 1
+    holds "CMake of a program of two files" sh -c "[ $status -eq 0 ] && grep -q '100% tests passed, 0 tests failed out of 12' '$scratch/output'"
 }
 
 lit_recipe() {

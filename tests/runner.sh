@@ -293,11 +293,35 @@ over_lengths() {
     run "$lengths" "$scratch/nosuch"
     ended "a missing program at all lengths" 126 '' "svemu-lengths: $scratch/nosuch couldn't be read\n"
     run "$lengths" "$scratch/empty"
-    ended "no program at all lengths" 122 '' "refused image TooShort\nsvemu-lengths: svemu-runner tells what $scratch/empty is\n"
+    ended "no program at all lengths" 122 '' "refused image TooShort\nsvemu-lengths: $scratch/empty is no ELF file\n"
+    program_of_another_machine "$scratch/other.elf"
+    run "$lengths" "$scratch/other.elf"
+    ended "another machine's program at all lengths" 122 '' \
+        "refused image BadMachine\nsvemu-lengths: $scratch/other.elf is an x86-64 program: built by the host's compiler?\n"
+    run "$lengths" --pages 5 "$probe"
+    ended "too few pages at all lengths" 122 '' \
+        "refused image TooManyPages\nsvemu-lengths: $probe needs more pages than it may have (SVEMU_PAGES gives more)\n"
+    cp "$built" "$scratch/svemu-alone"
+    run env SVEMU="$scratch/svemu-alone" PATH=/usr/bin:/bin "$lengths" "$scratch/empty"
+    ended "without svemu-tool" 122 '' "refused image TooShort\nsvemu-lengths: svemu-runner tells what $scratch/empty is\n"
+    run env SVEMU="$scratch/nosuch" "$lengths" "$probe"
+    ended "no svemu at all lengths" 126 '' "svemu-lengths: there is no program $scratch/nosuch (svemu-runner --help says where it is looked for)\n"
+    for budget in x '' -1 1e9 010 18446744073709551616 99999999999999999999 100000000000000000000; do
+        run "$lengths" --budget "$budget" "$probe"
+        ended "the budget '$budget'" 121 '' "svemu-lengths: --budget is '$budget': it may be a number from 0 to 18446744073709551615\n"
+    done
+    run "$lengths" --status 3 --budget 18446744073709551615 "$probe"
+    holds "the greatest budget" [ "$status" -eq 0 ]
     run env SVEMU_BUDGET=x "$lengths" "$probe"
-    ended "a budget that is no number" 121 '' "refused words BadNumber at 3\nsvemu-lengths: svemu was given: sweep $probe --budget x\n"
-    run "$lengths" --budget 5 --pages x "$probe"
-    ended "pages that are none" 121 '' "refused words BadNumber at 5\nsvemu-lengths: svemu was given: sweep $probe --budget 5 --pages x\n"
+    ended "the variable's budget" 121 '' "svemu-lengths: SVEMU_BUDGET is 'x': it may be a number from 0 to 18446744073709551615\n"
+    for pages in x '' 0 1048577 99999999999; do
+        run "$lengths" --budget 5 --pages "$pages" "$probe"
+        ended "the pages '$pages'" 121 '' "svemu-lengths: --pages is '$pages': it may be a number from 1 to 1048576\n"
+    done
+    run env SVEMU_PAGES=x "$lengths" "$probe"
+    ended "the variable's pages" 121 '' "svemu-lengths: SVEMU_PAGES is 'x': it may be a number from 1 to 1048576\n"
+    run "$lengths" --budget=5 "$probe"
+    ended "an option and its value as one word" 121 '' 'svemu-lengths: --budget and its value are two words: --budget 5\n'
     run "$lengths" --status 256 "$probe"
     ended "a status past 255" 121 '' "svemu-lengths: --status is '256': it may be 0 to 255\n"
     run "$lengths" --length 128 "$probe"

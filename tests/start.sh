@@ -113,6 +113,37 @@ svemu.txt' ]"
     release_checks
     gate_ends
     install_without_kit
+    start_on_a_terminal
+}
+
+# On a terminal a line that may be refused is first asked of with a budget of 0, so that it takes no step twice.
+start_on_a_terminal() {
+    ! lacks "a start on a terminal" python3 || return 0
+    mkdir -p "$checkout/crates/svemu/out"
+    printf '#!/bin/sh\necho "$*" >>"%s"\nexit 123\n' "$scratch/called" >"$checkout/crates/svemu/out/svemu"
+    chmod +x "$checkout/crates/svemu/out/svemu"
+    while IFS='|' read -r words asked; do
+        : >"$scratch/called"
+        # shellcheck disable=SC2086 # words
+        bare python3 "$top/tests/terminal.py" ./svemu $words
+        printf '%s' "${asked:+$asked
+}$words
+" >"$scratch/calls"
+        holds "on a terminal: $words" sh -c '[ "$1" -eq 123 ] && diff "$2" "$3"' sh "$status" "$scratch/calls" "$scratch/called"
+    done <<'END'
+run p --vl 128 --budget 7|run p --vl 128 --budget 0
+run p --budget 9999999999999999999 --vl 128 -- --budget 5|run p --budget 0 --vl 128 -- --budget 0
+sweep p --budget 1e9|sweep p --budget 1e9
+sweep p --budget 010|sweep p --budget 010
+threads p s --vl 128 --budget 18446744073709551615|
+dbg p /dev/null --vl 128 --budget 5|
+load 5|
+dis p|
+END
+    : >"$scratch/called"
+    bare ./svemu run p --vl 128 --budget 7
+    holds "no such question elsewhere" sh -c '[ "$1" -eq 123 ] && [ "$(cat "$2")" = "run p --vl 128 --budget 7" ]' sh "$status" "$scratch/called"
+    rm -r "$checkout/crates/svemu/out"
 }
 
 start_without_kit() {

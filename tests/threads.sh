@@ -156,7 +156,18 @@ END
     done
     run "$schedules" --bound 2 examples/strlen.elf
     holds "a program of one thread has one schedule" sh -c '[ "$1" -eq 0 ] && tail -n 1 "$2" |
-        grep -qx "=> the one schedule with at most 2 switches agrees"' sh "$status" "$scratch/output"
+        grep -qx "=> the one schedule with at most 2 switches agrees: the program starts no thread"' sh "$status" "$scratch/output"
+    run "$schedules" --bound 2 examples/prefix_sum.elf
+    ended "one that takes more steps" 2 '' \
+        "svemu-schedules: without a switch the program doesn't end within 20000 steps (--budget takes more); it starts no thread up to there\n"
+    run "$schedules" 40 examples/strlen.elf
+    holds "one of one thread by chance" awk '
+        NR == 1 { bad = !/^schedule 1 exit 0 after [0-9]+ steps out 51 same$/; next }
+        { bad = bad || $0 != "=> 40 schedules, 0 part: the program starts no thread" }
+        END { exit bad || NR != 2 }' "$scratch/output"
+    run "$schedules" --budget 10 40 examples/strlen.elf
+    ended "one that starts none in its budget" 0 \
+        'schedule 1 spent after 10 steps out 0 same\n=> 40 schedules, 0 part: the program starts no thread in these steps\n' ''
 }
 
 # Where a thread waits or leaves and more than one could go on, each is tried: main waits for the first of two others,
@@ -339,12 +350,18 @@ schedules_refused() {
     ended "no number for a seed" 2 '' \
         'svemu-schedules: --seed wants a number from 0 to 18446744073709551615, not -1\n'
     run "$schedules" --vl 100 5 "$probe"
-    ended "schedules at no length" 2 '' 'svemu-schedules: --vl wants a number from 128 to 2048, not 100\n'
+    ended "schedules at no length" 2 '' 'svemu-schedules: --vl wants a multiple of 128 from 128 to 2048, not 100\n'
+    run env SVEMU_VL=100 "$schedules" 5 "$probe"
+    ended "schedules at no length of the variable" 2 '' 'svemu-schedules: SVEMU_VL wants a multiple of 128 from 128 to 2048, not 100\n'
+    run "$schedules" --seed=2 5 "$probe"
+    ended "an option and its value as one word" 2 '' 'svemu-schedules: --seed and its value are two words: --seed 2\n'
     run "$schedules" 5 "$scratch/nosuch"
     ended "schedules of a missing program" 2 '' "svemu-schedules: $scratch/nosuch couldn't be read\n"
     echo text >"$scratch/text"
     run "$schedules" 5 "$scratch/text"
-    ended "schedules of what is no program" 2 '' 'svemu-schedules: svemu says: refused image TooShort (svemu-runner tells what the file is)\n'
+    ended "schedules of what is no program" 2 '' "svemu-schedules: svemu-tool says: $scratch/text is no ELF file\n"
+    run "$schedules" --bound 2 "$scratch/text"
+    ended "all schedules of it" 2 '' "svemu-schedules: svemu-tool says: $scratch/text is no ELF file\n"
     run "$schedules" --keep "$scratch/text/folder" 5 examples/lost_update.elf
     holds "a folder that can't be" [ "$status" -eq 2 ]
     run sh -c '"$1" 5 "$2" >/dev/full' sh "$schedules" examples/lost_update.elf
@@ -358,6 +375,8 @@ schedules_refused() {
     ended "a seed for all schedules" 2 '' 'svemu-schedules: --seed is for schedules by chance, and --bound tries all\n'
     run "$schedules" --bound 2 --budget 65537 "$probe"
     ended "too many steps to follow" 2 '' 'svemu-schedules: --bound wants a budget of at most 65536 steps, not 65537\n'
+    run env SVEMU_BUDGET=65537 "$schedules" --bound 2 "$probe"
+    ended "too many by the variable" 2 '' 'svemu-schedules: --bound wants a budget of at most 65536 steps, not 65537 of SVEMU_BUDGET\n'
     run "$schedules" --bound 2 --budget 100 examples/lost_update.elf
     ended "a program that doesn't end" 2 '' \
         "svemu-schedules: without a switch the program doesn't end within 100 steps (--budget takes more)\n"

@@ -1,14 +1,38 @@
 #!/bin/sh
 # Tests what stands beside the proved program: its start and its release, the cases over real files, the examples, those
 # of several threads under schedules, the listings, what the documents show, the runner, the manual page, the
-# installation, the recipes of docs/TESTING_YOUR_CODE.md, refused memory and random input. The program is the one that
-# SVEMU names, else the one that ./svemu runs, and svemu-tool that which SVEMU_TOOL names, else the one that ./svemu-tool
-# runs; no kit is needed. Each part has a line with its seconds, and what is
-# skipped a line that says why and what to install; on a terminal a line also says when a part begins. The last line is
-# 'N passed, M failed, K skipped'.
+# installation, the recipes of docs/TESTING_YOUR_CODE.md, refused memory and random input; or the parts that are named
+# alone. The program is the one that SVEMU names, else the one that ./svemu runs, and svemu-tool that which SVEMU_TOOL
+# names, else the one that ./svemu-tool runs; no kit is needed. Each part has a line with its seconds, and what is skipped
+# a line that says why and what to install; on a terminal a line also says when a part begins. The last line is 'N passed,
+# M failed, K skipped'.
 set -u
 
+usage() {
+    cat <<'TEXT'
+usage: tests/tools.sh [PART ..]
+
+Tests what stands beside the proved program, all parts or those that are named, each by its title as one word. The parts:
+
+TEXT
+    sed -n 's/^    part "\([^"]*\)".*/  \1/p' tests/tools.sh
+    printf '\nstatus: 0 where no test fails, else 1; 2 where a part is named that there is not\n'
+}
+
 cd "$(dirname "$0")/.." || exit 1
+case ${1-} in
+    --help)
+        usage
+        exit 0
+        ;;
+esac
+for title in "$@"; do
+    grep -Fq "    part \"$title\" " tests/tools.sh || {
+        echo "tools.sh: there is no part '$title' (--help lists them)" >&2
+        exit 2
+    }
+done
+only=$(printf '%s\n' "$@")
 top=$(pwd)
 built=${SVEMU:-$(./svemu --program || { ./svemu --build && ./svemu --program; })}
 tool=${SVEMU_TOOL:-$(./svemu-tool --program || { ./svemu-tool --build && ./svemu-tool --program; })}
@@ -60,6 +84,7 @@ packages_of() {
             man) echo man-db ;;
             callgrind_annotate) echo valgrind ;;
             genhtml) echo lcov ;;
+            llvm-addr2line) echo llvm ;;
             ctest) echo cmake ;;
             cc) echo gcc ;;
             *) echo "$word" ;;
@@ -83,6 +108,7 @@ lacks() {
 # Runs a part of the tests, says how it went and how long it took, and on a terminal, before that, which one it is.
 part() {
     part_title=$1
+    [ -z "$only" ] || printf '%s\n' "$only" | grep -Fqx -e "$part_title" || return 0
     shift
     part_number=$((${part_number:-0} + 1))
     [ ! -t 1 ] || echo "part $part_number of $parts: $part_title .."
@@ -140,6 +166,11 @@ ended_like() {
     fi
 }
 
+# Writes a program as the host's compiler makes them: the tests' own with the number of x86-64, 62, as its machine.
+program_of_another_machine() {
+    { head -c 18 "$probe" && printf '\76\0' && tail -c +21 "$probe"; } >"$1"
+}
+
 # Whether each example writes what stands beside it.
 examples() {
     for example in memcpy strlen dot_product histogram lost_sums set_length prefix_sum; do
@@ -173,7 +204,9 @@ own_kernel() {
         [ "$(grep -cE "^vl [0-9]+ exit 0 after [0-9]+ steps out 38 err 0 same$" "$2")" -eq 16 ]' sh "$status" "$scratch/output"
     if ! lacks "symbols of a program of one's own" python3; then
         run tools/svemu-diff made/mine.elf
-        ended "its lengths don't part" 0 'the output and the ending are the same at all sixteen lengths\n' ''
+        ended "its lengths don't part" 0 "a kernel's test by kernel_test.h takes other counts at other lengths: with --test svemu-diff tells which step made one fail
+the output and the ending are the same at all sixteen lengths
+" ''
         run env PATH="$scratch/own/bin:$PATH" XDG_CACHE_HOME="$scratch/own/cache" SVEMU="$built" SVEMU_TOOL="$tool" tools/svemu-cover --open made/mine.elf
         holds "what ran of it is drawn" sh -c 'cat "$3"; [ "$1" -eq 0 ] && grep -q "dot_product" "$2"/cache/svemu/pages/*.html' sh "$status" "$scratch/own" "$scratch/errors"
     fi
@@ -216,9 +249,45 @@ told_of_help() {
         # shellcheck disable=SC2016 # the inner shell expands them
         holds "$1: '$words' on a terminal" sh -c '[ "$1" -eq 121 ] && cmp "$2" "$3"' sh "$status" "$scratch/output" "$scratch/refusal"
     done
-    ! lacks "on a terminal" python3 || return 0
-    run python3 tests/terminal.py "$2" run "$probe" --vl 100 --budget 1
-    ended "$1: another refusal on a terminal" 121 'refused words BadLength at 3\n' ''
+}
+
+# Whether a person at a terminal is told where the manual has what is refused, and nobody else; and whether nothing is
+# said of a program's own status, and a pipe is read once.
+told_of_manual() {
+    manual=$top/docs/MANUAL.md
+    while IFS='|' read -r status_wanted refusal told words; do
+        # shellcheck disable=SC2086 # words
+        run ./svemu $words
+        printf '%s' "${refusal:+$refusal
+}" >"$scratch/refusal"
+        holds "'$words' is refused" sh -c '[ "$1" -eq "$2" ] && cmp "$3" "$4"' sh "$status" "$status_wanted" "$scratch/errors" "$scratch/refusal"
+        echo "svemu: $told" >>"$scratch/refusal"
+        # shellcheck disable=SC2086
+        run python3 tests/terminal.py ./svemu $words
+        holds "'$words' on a terminal" sh -c '[ "$1" -eq "$2" ] && diff "$3" "$4"' sh "$status" "$status_wanted" "$scratch/output" "$scratch/refusal"
+    done <<END
+121|refused words BadLength at 3|'Refused lines' of $manual says what that is, and what to do|run $probe --vl 100 --budget 1
+121|refused words BadNumber at 5|'Refused lines' of $manual says what that is, and what to do|run $probe --vl 128 --budget 1e9
+121|refused words MissingBudget at 2|'Refused lines' of $manual says what that is, and what to do|sweep $probe
+121|refused words BadNumber at 1|'Refused lines' of $manual says what that is, and what to do|load x
+122|refused image BadMagic|'What you see' of $manual says what that is, and what to do|run README.md --budget 100000000 --vl 128
+122|refused image TooManyPages|'What you see' of $manual says what that is, and what to do|run $probe --budget 5 --vl 128 --pages 3
+122|refused image BadMagic|'What you see' of $manual says what that is, and what to do|dis README.md
+122|refused schedule BadNumber at line 3|'What you see' of $manual says what that is, and what to do|threads $probe README.md --vl 128 --budget 5
+126||a file isn't there, or can't be read ('What you see' of $manual)|run $scratch/nosuch --vl 128 --budget 5
+126||a file isn't there, or can't be read ('What you see' of $manual)|asm $scratch/nosuch
+END
+    printf 'mov x0, #122\nmov x8, #93\nsvc #0\n' >"$scratch/own.s"
+    "$built" asm "$scratch/own.s" >"$scratch/own.elf"
+    run python3 tests/terminal.py ./svemu run "$scratch/own.elf" --vl 128 --budget 100
+    holds "a program's own status on a terminal" sh -c '[ "$1" -eq 122 ] && head -n 1 "$2" | grep -qx "exit 122 after 3 steps" &&
+        [ "$(wc -l <"$2")" -eq 86 ]' sh "$status" "$scratch/output"
+    rm -f "$scratch/turns-once"
+    mkfifo "$scratch/turns-once"
+    echo '0 1' >"$scratch/turns-once" &
+    run timeout 20 python3 tests/terminal.py ./svemu threads "$scratch/own.elf" "$scratch/turns-once" --vl 128 --budget 100
+    wait
+    holds "a pipe is read once" sh -c '[ "$1" -eq 122 ] && head -n 1 "$2" | grep -qx "exit 122 after 3 steps"' sh "$status" "$scratch/output"
 }
 
 # The tools that were installed, by the program that was.
@@ -261,6 +330,7 @@ help_here() {
         return
     fi
     told_of_help "here" ./svemu
+    lacks "on a terminal" python3 || told_of_manual
 }
 
 # That what a start takes is printed, whatever it is.
@@ -378,6 +448,20 @@ sessions_back() {
 trusted_definitions() {
     ! lacks "the definitions that the headline reads" python3 || return 0
     holds "the definitions that the headline reads" tools/trusted
+}
+
+# What one instruction costs, of the program and beside itself; what isn't here or asks for nothing is told.
+costs_of_instructions() {
+    ! lacks "what instructions cost" python3 valgrind aarch64-linux-gnu-as aarch64-linux-gnu-ld || return 0
+    holds "what nop costs, twice" sh -c \
+        'python3 tests/costs.py "$1" "$1" --only "$2" | grep -Eq "^[|] .nop. [|] ([0-9]+) \1 [|]$"' sh "$SVEMU" nop
+    holds "a row of vectors" sh -c \
+        'python3 tests/costs.py "$1" --only "$2" --bits 256 512 | grep -Eq "^[|] .str p0, .x0.. [|] [0-9]+ [|] [0-9]+ [|]$"' \
+        sh "$SVEMU" "str p0"
+    run python3 tests/costs.py "$scratch/nosuch"
+    ended "no program to measure" 1 '' "costs.py: $scratch/nosuch is no program\n"
+    run python3 tests/costs.py "$SVEMU" --only nosuch
+    ended "no row" 1 '' "costs.py: no row has 'nosuch'\n"
 }
 
 # The names, signatures, fields and variants that other programs find at the roots of the crates; and that a list which
@@ -526,11 +610,6 @@ counts_of_words() {
 
 # The lines of the steps of these programs are those of `count`, `dis` and `run`, and stand where QEMU's steps do.
 traces_of_steps() {
-    tool=${SVEMU_TOOL:-$top/crates/svemu_tool/out/svemu_tool}
-    if [ ! -x "$tool" ]; then
-        skip "traces of steps" "svemu-tool isn't built here: rt ci does it"
-        return
-    fi
     ! lacks "traces of steps" python3 || return 0
     set --
     for name in gathers lanes spills strings structures; do
@@ -568,7 +647,8 @@ pages() {
     . tests/pages.sh
 }
 
-parts=$(grep -c '^    part "' tests/tools.sh)
+parts=$#
+[ "$parts" -gt 0 ] || parts=$(grep -c '^    part "' tests/tools.sh)
 if [ "$failed" -eq 0 ]; then
     part "the start and the release" start
     part "the cases over real files" cases_over_files
@@ -590,6 +670,7 @@ if [ "$failed" -eq 0 ]; then
     part "who is told of --help" help_here
     part "what beginners are told" beginners
     part "what a start takes" times_of_a_start
+    part "what instructions cost" costs_of_instructions
     part "make install" installation
     part "the manual page" manual_page
     part "the recipes" recipes

@@ -6,9 +6,9 @@ Of each program, at 256 bits: each line is of the grammar in docs/MANUAL.md, and
 of the ending; each address has as many lines as `count` counts; a word and its text are those of `svemu dis`; the changes
 of the registers, made one after another, come to the registers that `run` prints; an element that was loaded has the
 bytes that were last stored there, as far as lines tell of them. Options choose the lines that they say, by the symbols
-of the program where it has some, and those that say nothing are refused. Where `qemu-aarch64` is installed, it runs the program with one instruction in each block
-(`-singlestep`), and tells by `-d exec,nochain` where each block begins: the addresses have to be the same in their order.
-Without it that part is skipped, and so it is where QEMU itself doesn't end as svemu does.
+of the program where it has some, and those that say nothing are refused. Where `qemu-aarch64` is installed, the addresses
+of its steps have to be the same in their order. Without it that part is skipped, and so it is where QEMU itself doesn't
+end as svemu does.
 """
 import collections
 import os
@@ -16,10 +16,10 @@ import re
 import shutil
 import subprocess
 import sys
-import tempfile
 
 sys.dont_write_bytecode = True
 sys.path.insert(0, os.path.join(os.path.dirname(os.path.dirname(os.path.abspath(__file__))), 'tools'))
+from qemu_steps import in_qemu  # noqa: E402
 from svemu_program import Image  # noqa: E402
 
 BUDGET = '1000000000'
@@ -29,7 +29,6 @@ REGISTER = re.compile(r'^(x\d+|sp|tpidr|nzcv|vl|z\d+|p\d+|ffr) ([0-9a-f]+)$')
 ACCESS = re.compile(r'^(load|store) ([0-9a-f]{16}) (\d+) ((?:[0-9a-f]{2}|--)+)$')
 ENDING = re.compile(r'^(exit (\d+)|trap .*|spent) after (\d+) steps$')
 LEFT = re.compile(r'^step after (\d+) steps at 0x([0-9a-f]{16})$')
-TRACE = re.compile(rb'^Trace \d+: 0x[0-9a-f]+ \[[0-9a-f]+/([0-9a-f]+)/')
 
 NUMBER = 'is no number of at most 2^64 - 1; --call and --steps count from 1'
 REFUSALS = [
@@ -105,18 +104,6 @@ def replayed(steps, last):
                 else:
                     memory[place] = byte
     return registers, wrong
-
-
-def in_qemu(program):
-    """The addresses of QEMU's steps in order, and its status."""
-    with tempfile.TemporaryDirectory() as folder:
-        log = os.path.join(folder, 'log')
-        answer = subprocess.run(
-            ['qemu-aarch64', '-cpu', f'max,sve-max-vq={BITS // 128}', '-singlestep', '-d', 'exec,nochain',
-             '-D', log, program], stdin=subprocess.DEVNULL, capture_output=True)
-        with open(log, 'rb') as lines:
-            found = (TRACE.match(line) for line in lines)
-            return [int(trace[1], 16) for trace in found if trace], answer.returncode
 
 
 def refusals(tool, program):
@@ -201,7 +188,7 @@ def main():
             print(f'wrong: {name}: {part}')
         if not qemu:
             continue
-        theirs, status = in_qemu(program)
+        theirs, status = in_qemu(program, BITS)
         if status != ended:
             print(f'skipped: {name}: QEMU ends by {status}, and svemu by {ended}')
             continue

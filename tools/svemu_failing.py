@@ -2,15 +2,18 @@
 
 import re
 import struct
+import subprocess
 from typing import NamedTuple
 
 from svemu_calls import Calls, bytes_at, lane_of, last_branch, last_change, last_writer, stops_at, times
-from svemu_pages import ENDING, Failure
+from svemu_pages import ENDING, Failure, find_tool
 from svemu_program import PAGE
 
 # The table of examples/guest.h, and the record of examples/kernel_test.h.
 GUARDS, DIFFERENCE = "guarded_buffers", "kernel_test_difference"
 GUARDS_TOLD = 256
+# A program that is linked with a C library is begun by this function of it.
+C_LIBRARY = "__libc_start_main"
 # A page of svemu-lanes has so many steps before a trap, or of the call that ends by it.
 DRAWN, CALL_DRAWN = 40, 1000
 TRAP = re.compile(r"trap ([-a-z]+) 0x([0-9a-f]+) at 0x([0-9a-f]+)$")
@@ -55,13 +58,28 @@ def guard_of(run, step, address):
     return ""
 
 
-def what_to_do(kind, guarded):
+def family_of(text):
+    """What kind of instruction a word is that has no text but `.word`, by svemu-tool; nothing where that can't be asked."""
+    if not text.startswith(".word "):
+        return ""
+    try:
+        done = subprocess.run([find_tool(), "family", text.removeprefix(".word ")], stdin=subprocess.DEVNULL, capture_output=True, check=False)
+    except (OSError, Failure):
+        return ""
+    return done.stdout.decode(errors="replace").rstrip("\n").partition(" ")[2] if done.returncode == 0 else ""
+
+
+def what_to_do(kind, guarded, program, text):
     if guarded:
         return ("let a predicate of the count (whilelt) govern it; 'Over-reads' of docs/TESTING_YOUR_CODE.md has an "
                 "example")
+    if kind == "undefined" and any(name.startswith(C_LIBRARY) for name, _ in program.labels.values()):
+        return ("link it without its C library, which svemu doesn't run; 'What you need' of docs/TESTING_YOUR_CODE.md says "
+                "what is in its place")
     if kind == "undefined":
-        return ("svemu-runner tells what the word is; the flags of docs/TESTING_YOUR_CODE.md keep compilers from such "
-                "words")
+        family = family_of(text)
+        return (f"the word is {family}" if family else "svemu-runner tells what the word is") + \
+            "; 'What leaves the table' of docs/TESTING_YOUR_CODE.md says what to do"
     return f"'What you see' of docs/MANUAL.md has it below 'trap {kind}'"
 
 
@@ -81,7 +99,7 @@ def trap(run, functions):
              f"by {instruction(run, pc)}"]
     if guarded:
         lines.append(f"{address:#x} is {guarded}")
-    return [*lines, f"what to do: {what_to_do(kind, bool(guarded))}", drawn(run, stop.step, calls, frame)]
+    return [*lines, f"what to do: {what_to_do(kind, bool(guarded), run.program, run.program.texts.get(pc, ''))}", drawn(run, stop.step, calls, frame)]
 
 
 def drawn(run, step, calls, frame):

@@ -19,6 +19,8 @@ SCRIPT_LINES = 10000
 # What a sweep reads, and what a program writes to one file under it, has no more bytes.
 STREAM_BYTES = 16777216
 
+LENGTHS = range(128, 2049, 128)
+
 # How a program ended: the beginning of the lines that say so.
 ENDING = rb"(?:exit \d+|trap [-a-z]+ 0x[0-9a-f]+ at 0x[0-9a-f]+|spent)"
 
@@ -28,6 +30,9 @@ STOP = re.compile(rb"(?:(step|break|watch \d+) after (\d+) steps at 0x([0-9a-f]{
 
 # A line by which `nm`, or with its size `nm -S`, names code.
 NM = re.compile(r"([0-9a-fA-F]+)(?: ([0-9a-fA-F]+))? [TtWwi] (\S+)")
+
+# What svemu-tool says for a person begins so.
+SAYS = "svemu: "
 
 WHY = {118: "a word isn't text", 120: "there is no memory", 124: "the input couldn't be read",
        125: "svemu couldn't write", 127: "the program has more than 67108864 bytes"}
@@ -114,6 +119,9 @@ def options(words, known, usage):
             sys.stdout.write(usage + OPEN * (">page.html" in usage))
             sys.exit(0)
         if name not in known:
+            option, sign, value = name.partition("=")
+            if sign and option in known:
+                raise Failure(f"{option} and its value are two words: {option} {value}")
             raise Failure(f"there is no option {name} (--help lists them)")
         if not words:
             raise Failure(f"{name} wants a value")
@@ -123,19 +131,23 @@ def options(words, known, usage):
     return given, words[0], words[1:]
 
 
+def read_number(text):
+    """The number that a text is, in decimal or behind 0x; -1 where it is none."""
+    return int(text, 16 if "x" in text.lower() else 10) if re.fullmatch(r"[0-9]+|0[xX][0-9a-fA-F]+", text) else -1
+
+
 def number(name, text, least, most):
-    """The number that a text is, in decimal or behind 0x."""
-    if not re.fullmatch(r"[0-9]+|0[xX][0-9a-fA-F]+", text) or not least <= int(text, 16 if "x" in text.lower() else 10) <= most:
+    """The number that a text is, within a range."""
+    if not least <= read_number(text) <= most:
         raise Failure(f"{name} wants a number from {least} to {most}, not {text}")
-    return int(text, 16 if "x" in text.lower() else 10)
+    return read_number(text)
 
 
 def length(name, text):
     """The vector length in bits that a text is."""
-    bits = number(name, text, 128, 2048)
-    if bits % 128 != 0:
-        raise Failure(f"{name} wants a multiple of 128 from 128 to 2048, not {bits}")
-    return bits
+    if read_number(text) not in LENGTHS:
+        raise Failure(f"{name} wants a multiple of 128 from 128 to 2048, not {text}")
+    return read_number(text)
 
 
 class Run:
@@ -145,16 +157,16 @@ class Run:
     OPTIONS = ("--vl", *LIMITS)
 
     def __init__(self, given, program, arguments, by_tool=False):
-        def limit(name, variable, usual, least, most):
-            text = given[name][-1] if given[name] else os.environ.get(variable) or usual
-            return text and number(name, text, least, most)
+        def limit(name, variable, usual, read, *range_of):
+            if given[name]:
+                return read(name, given[name][-1], *range_of)
+            text = os.environ.get(variable)
+            return read(variable, text, *range_of) if text else usual
 
         # A tool for all lengths has no --vl.
-        self.vl = limit("--vl", "SVEMU_VL", "512", 128, 2048) if "--vl" in given else 128
-        if self.vl % 128 != 0:
-            raise Failure(f"--vl wants a multiple of 128 from 128 to 2048, not {self.vl}")
-        self.budget = limit("--budget", "SVEMU_BUDGET", "10000000000", 0, 2**64 - 1)
-        self.pages = limit("--pages", "SVEMU_PAGES", "", 1, 1048576)
+        self.vl = limit("--vl", "SVEMU_VL", 512, length) if "--vl" in given else 128
+        self.budget = limit("--budget", "SVEMU_BUDGET", 10000000000, number, 0, 2**64 - 1)
+        self.pages = limit("--pages", "SVEMU_PAGES", None, number, 1, 1048576)
         self.chosen = [word for name in self.LIMITS if given[name] for word in (name, given[name][-1])]
         self.file = "./" + program if program.startswith("--") else program
         self.arguments = ["--", *arguments] if arguments else []
@@ -184,15 +196,26 @@ class Run:
         raise self.failure(done, words[1])
 
     def failure(self, done, name):
-        """Why a call of svemu has no answer, whose first file has this name."""
-        said = done.stderr.decode(errors="replace").strip().splitlines()
+        """Why a call of svemu or of svemu-tool has no answer, whose first file has this name."""
+        last = (done.stderr.decode(errors="replace").strip().splitlines() or [""])[-1]
         if done.returncode == 126:
             return Failure(f"{name} couldn't be read")
-        if said[-1:] == [f"too long {STREAM_BYTES}"]:
+        if last.startswith(SAYS):
+            return Failure(f"svemu-tool says: {last.removeprefix(SAYS)}")
+        if last == f"too long {STREAM_BYTES}":
             return Failure(f"the input, or what the program writes at one of the lengths, has more than {STREAM_BYTES} bytes")
-        more = " (svemu-runner tells what the file is)" if said[-1:] and said[-1].startswith("refused image ") else ""
-        told = f"svemu says: {said[-1]}{more}" if said else f"svemu ended with {done.returncode}"
-        return Failure(WHY.get(done.returncode) or told)
+        if last.startswith("refused image "):
+            return Failure(self.what_it_is() or f"svemu says: {last} (svemu-runner tells what the file is)")
+        return Failure(WHY.get(done.returncode) or (f"svemu says: {last}" if last else f"svemu ended with {done.returncode}"))
+
+    def what_it_is(self):
+        """What svemu-tool says of a file that is no image to run; nothing where there is no svemu-tool."""
+        try:
+            done = subprocess.run([find_tool(), "run", *self.limits(0), self.file], stdin=subprocess.DEVNULL, capture_output=True, check=False)
+        except (OSError, ValueError, Failure):
+            return ""
+        said = done.stderr.decode(errors="replace").strip()
+        return f"svemu-tool says: {said.removeprefix(SAYS)}" if done.returncode == 122 and said.startswith(SAYS) else ""
 
     def limits(self, budget=None):
         """The words that limit a run."""
@@ -232,12 +255,24 @@ def find_svemu():
     tools = os.path.dirname(os.path.realpath(__file__))
     beside = [os.path.join(tools, "svemu"), os.path.join(tools, "..", "svemu")]
     if os.environ.get("SVEMU"):
-        found = shutil.which(os.environ["SVEMU"])
+        found = named_svemu()
     else:
         found = next((file for file in beside if os.path.isfile(file) and os.access(file, os.X_OK)), shutil.which("svemu"))
     if found is None:
-        raise Failure(f"there is no program {os.environ.get('SVEMU') or 'svemu'} (--help says where it is looked for)")
+        raise no_program("svemu")
     return program_of(found)
+
+
+def named_svemu():
+    """The svemu that the variable SVEMU names."""
+    found = shutil.which(os.environ["SVEMU"])
+    if found is None:
+        raise no_program(os.environ["SVEMU"])
+    return found
+
+
+def no_program(name):
+    return Failure(f"there is no program {name} (--help says where it is looked for)")
 
 
 def find_tool():
@@ -247,11 +282,10 @@ def find_tool():
     else:
         tools = os.path.dirname(os.path.realpath(__file__))
         beside = [os.path.join(tools, "svemu-tool"), os.path.join(tools, "..", "svemu-tool")]
-        svemu = shutil.which(os.environ.get("SVEMU", "")) if os.environ.get("SVEMU") else None
-        beside = [os.path.join(os.path.dirname(svemu), "svemu-tool")] if svemu else beside
+        beside = [os.path.join(os.path.dirname(named_svemu()), "svemu-tool")] if os.environ.get("SVEMU") else beside
         found = next((file for file in beside if os.path.isfile(file) and os.access(file, os.X_OK)), shutil.which("svemu-tool"))
     if found is None:
-        raise Failure(f"there is no program {os.environ.get('SVEMU_TOOL') or 'svemu-tool'} (--help says where it is looked for)")
+        raise no_program(os.environ.get("SVEMU_TOOL") or "svemu-tool")
     return program_of(found)
 
 

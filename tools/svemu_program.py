@@ -13,16 +13,19 @@ PAGE = 4096
 STORES = re.compile(r"st|swp|cas|ld(add|clr|eor|set|smax|smin|umax|umin)")
 
 
+def bytes_of(file):
+    try:
+        with open(file, "rb") as opened:
+            return opened.read()
+    except OSError as error:
+        raise Failure(f"{file} couldn't be read: {error.strerror}") from None
+
+
 class Image:
     """What an executable's file says: its functions, objects and other labels by symbols, and its writable segments."""
 
-    def __init__(self, file):
-        try:
-            with open(file, "rb") as opened:
-                self.bytes = opened.read()
-        except OSError as error:
-            raise Failure(f"{file} couldn't be read: {error.strerror}") from None
-        self.file = file
+    def __init__(self, file, content=None):
+        self.file, self.bytes = file, bytes_of(file) if content is None else content
         try:
             self.read()
         except (struct.error, IndexError, ValueError):
@@ -97,14 +100,16 @@ class Program(Image):
     """An executable with symbols of functions, its own or those of a file with the output of nm, and its instructions."""
 
     def __init__(self, run, symbols=None):
-        super().__init__(run.file)
+        content = bytes_of(run.file)
+        # svemu refuses what is no image that can be run.
+        lines = run.call("dis", run.file).splitlines()
+        super().__init__(run.file, content)
         if symbols is not None:
             self.functions = {address: (name, size) for address, name, size in reversed(code_of_nm(symbols))}
             self.labels = dict(self.functions)
             self.starts = sorted(self.labels)
         if not self.functions:
             raise Failure(f"{run.file} has no symbols of functions: build it without -s, and don't strip it")
-        lines = run.call("dis", run.file).splitlines()
         self.texts = {int(line[:16], 16): line[26:].decode(errors="replace") for line in lines}
 
     def reads_first(self, pc, backs, budget=200):

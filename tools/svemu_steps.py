@@ -106,12 +106,9 @@ class Tracer:
 
 def refusal(run, status, said):
     """Why svemu-tool told nothing."""
-    lines = said.decode(errors="replace").strip().splitlines()
-    if status == 126:
-        return Failure(f"{run.file} couldn't be read")
-    if lines and re.search("(trace is no command|registers is no option)", lines[-1]):
+    if re.search(rb"(trace is no command|registers is no option)[^\n]*\s*$", said):
         return Failure("this svemu-tool has no command trace: that of this tool's release or checkout has it")
-    return Failure(f"svemu-tool says: {lines[-1].removeprefix('svemu: ')}" if lines else f"svemu-tool ended with {status}")
+    return run.failure(subprocess.CompletedProcess([], status, stderr=said), run.file)
 
 
 class Call(NamedTuple):

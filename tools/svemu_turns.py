@@ -37,6 +37,10 @@ class Ended(NamedTuple):
         """Whether this run does otherwise than the first."""
         return (self.how, self.output) != (first.how, first.output)
 
+    def is_alone(self):
+        """Whether the report has all registers of one thread, and of no other: none was started."""
+        return len(self.threads) == 1 and b"\npc " in self.threads[0]
+
     def told(self, first):
         """The words of a line on this run: its ending, and the first byte at which its output parts."""
         at = parting(first.output, self.output)
@@ -302,9 +306,12 @@ class Bound:
         """The run without a switch; and the first schedule that parts with its turns and how it ended, or None."""
         turns, first = ends(self.run, Schedule([], (0,), [], ()), 2 * TURN)
         if first.how == "spent":
-            steps = self.run.budget
-            raise Failure(f"without a switch the program doesn't end within {steps} steps (--budget takes more)")
+            more = "; it starts no thread up to there" if first.is_alone() else ""
+            raise Failure(f"without a switch the program doesn't end within {self.run.budget} steps (--budget takes more){more}")
         say(f"0 switches: 1 schedule, {first.how} after {first.steps} steps out {len(first.output)}")
+        if first.is_alone():
+            self.count = 1
+            return first, None
         start = self.follower.first_start(turns, first)
         level = [Schedule([Step(0, 0, (0,), False)] * start, (0,), [], ())]
         for switches in range(self.bound + 1):
