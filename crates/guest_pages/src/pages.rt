@@ -250,7 +250,6 @@ impl Pages {
 
     /// `count` bytes of a page that is mapped, from place `at` on, for writing, and sets `spare` to the number of
     /// frames that are spare then.
-    #[inline(always)]
     pub fn part_mut(&mut self, page: u64, at: usize, count: usize, spare: &mut u32) -> &mut [u8]
         requires mapped { IsTrue (map.contains_key self.old.memory.pages page) }
         requires within { at + count ≤ page_size }
