@@ -205,6 +205,9 @@ def main():
     for program in filter(None, (given.svemu, given.other)):
         if not os.access(program, os.X_OK):
             sys.exit(f'costs.py: {program} is no program')
+        with open(program, 'rb') as file:
+            if file.read(4) != b'\x7fELF':
+                sys.exit(f'costs.py: {program} is a script, not the program itself: ./svemu --program names it')
     if given.only not in SCALARS + VECTORS:
         sys.exit(f"costs.py: no row has '{given.only}'")
     marked = 0

@@ -453,14 +453,17 @@ trusted_definitions() {
 # What one instruction costs, of the program and beside itself; what isn't here or asks for nothing is told.
 costs_of_instructions() {
     ! lacks "what instructions cost" python3 valgrind aarch64-linux-gnu-as aarch64-linux-gnu-ld || return 0
+    program=$("$SVEMU" --program 2>/dev/null) || program=$SVEMU
     holds "what nop costs, twice" sh -c \
-        'python3 tests/costs.py "$1" "$1" --only "$2" | grep -Eq "^[|] .nop. [|] ([0-9]+) \1 [|]$"' sh "$SVEMU" nop
+        'python3 tests/costs.py "$1" "$1" --only "$2" | grep -Eq "^[|] .nop. [|] ([1-9][0-9]*) \1 [|]$"' sh "$program" nop
     holds "a row of vectors" sh -c \
-        'python3 tests/costs.py "$1" --only "$2" --bits 256 512 | grep -Eq "^[|] .str p0, .x0.. [|] [0-9]+ [|] [0-9]+ [|]$"' \
-        sh "$SVEMU" "str p0"
+        'python3 tests/costs.py "$1" --only "$2" --bits 256 512 | grep -Eq "^[|] .str p0, .x0.. [|] [1-9][0-9]* [|] [1-9][0-9]* [|]$"' \
+        sh "$program" "str p0"
     run python3 tests/costs.py "$scratch/nosuch"
     ended "no program to measure" 1 '' "costs.py: $scratch/nosuch is no program\n"
-    run python3 tests/costs.py "$SVEMU" --only nosuch
+    run python3 tests/costs.py svemu
+    ended "a script" 1 '' "costs.py: svemu is a script, not the program itself: ./svemu --program names it\n"
+    run python3 tests/costs.py "$program" --only nosuch
     ended "no row" 1 '' "costs.py: no row has 'nosuch'\n"
 }
 
