@@ -16,7 +16,8 @@ covered() {
 covered_stripped() {
     run "$cover" --symbols examples/lost_sums.symbols --text - examples/lost_sums.elf
     holds "a stripped program by the output of nm" [ "$status" -eq 0 ]
-    holds "its functions" [ "$(grep -Ec '^(main|_start|put_text): [0-9]+ of [0-9]+ instructions ran at each length' "$scratch/output")" -eq 3 ]
+    holds "its functions" \
+        [ "$(grep -Ec '^(main|_start|put_text): [0-9]+ of [0-9]+ instructions ran at each length' "$scratch/output")" -eq 3 ]
     holds "its kernel ran at each length" grep -Eq '^[0-9a-f]{16} #{16} +16-250  ld1w ' "$scratch/output"
     run "$cover" --symbols examples/lost_sums.symbols examples/lost_sums.elf
     cp "$scratch/output" "$scratch/page.html"
@@ -80,14 +81,16 @@ covered_refusals() {
     run "$cover" --vl 100 "$probe"
     ended "a length that there isn't" 2 '' 'svemu-cover: --vl wants a multiple of 128 from 128 to 2048, not 100\n'
     run env SVEMU_BUDGET=1e9 "$cover" "$probe"
-    ended "a variable that is no number" 2 '' 'svemu-cover: SVEMU_BUDGET wants a number from 0 to 18446744073709551615, not 1e9\n'
+    ended "a variable that is no number" 2 \
+        '' 'svemu-cover: SVEMU_BUDGET wants a number from 0 to 18446744073709551615, not 1e9\n'
     run "$cover" --symbols examples/lost_sums.symbols --budget 0 examples/lost_sums.elf
     ended "no steps" 2 '' 'svemu-cover: no instruction of a function ran; the program ended by spent\n'
     run "$cover" README.md
     ended "no program" 2 '' 'svemu-cover: svemu-tool says: README.md is no ELF file\n'
     program_of_another_machine "$scratch/other.elf"
     run "$cover" "$scratch/other.elf"
-    ended "another machine's program" 2 '' "svemu-cover: svemu-tool says: $scratch/other.elf is an x86-64 program: built by the host's compiler?\n"
+    ended "another machine's program" 2 \
+        '' "svemu-cover: svemu-tool says: $scratch/other.elf is an x86-64 program: built by the host's compiler?\n"
     run "$cover" --least 101 "$probe"
     ended_like "more than all" 2 'svemu-cover: --least wants a number from 0 to 100, not 101'
     run "$cover" "$scratch/nosuch"

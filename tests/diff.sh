@@ -225,7 +225,8 @@ where_it_traps() {
             begin) told="what to do: the word is Advanced SIMD; 'What leaves the table' of docs/TESTING_YOUR_CODE.md says what to do" ;;
             *) told="what to do: link it without its C library, which svemu doesn't run; 'What you need' of docs/TESTING_YOUR_CODE.md says what is in its place" ;;
         esac
-        holds "an undefined word in $start" sh -c '[ "$1" -eq 1 ] && grep -Eqx -e "$3" "$2"' sh "$status" "$scratch/output" "$told"
+        holds "an undefined word in $start" \
+            sh -c '[ "$1" -eq 1 ] && grep -Eqx -e "$3" "$2"' sh "$status" "$scratch/output" "$told"
     done
     run "$diff_tool" "$parting" status
     ended "a status that isn't 0" 0 'the output and the ending are the same at all sixteen lengths: exit 3\n' ''
@@ -307,7 +308,8 @@ diff_refusals() {
     ended "no ELF file" 2 '' "svemu-diff: svemu-tool says: tests/tools.sh is no ELF file\n"
     program_of_another_machine "$scratch/other.elf"
     run "$diff_tool" "$scratch/other.elf"
-    ended "another machine's program" 2 '' "svemu-diff: svemu-tool says: $scratch/other.elf is an x86-64 program: built by the host's compiler?\n"
+    ended "another machine's program" 2 \
+        '' "svemu-diff: svemu-tool says: $scratch/other.elf is an x86-64 program: built by the host's compiler?\n"
     for two in "--vl 256" "--beside 256"; do
         # shellcheck disable=SC2086 # words
         run "$diff_tool" $two "$probe"

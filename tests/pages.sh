@@ -96,7 +96,8 @@ TEXT
         run "$lanes" --vl "$vl" --in mix --call 2 "$scratch/mix.elf"
         holds "a page of 5,000 steps at $vl" [ "$status" -eq 0 ]
         cp "$scratch/output" "$scratch/page.html"
-        holds "it says what is left of the call" sh -c 'python3 tests/pages.py --data "$1" | grep -Eq "^.\"the call has [0-9]+ more steps: --after 5000 draws them\".$"' sh "$scratch/page.html"
+        holds "it says what is left of the call" \
+            sh -c 'python3 tests/pages.py --data "$1" | grep -Eq "^.\"the call has [0-9]+ more steps: --after 5000 draws them\".$"' sh "$scratch/page.html"
         looked_at "a page of 5,000 steps at $vl in Chromium" --long "$scratch/page.html"
         run "$lanes" --vl "$vl" --in mix --call 2 --steps 240 "$scratch/mix.elf"
         cp "$scratch/output" "$scratch/page.html"
@@ -114,7 +115,8 @@ TEXT
     looked_at "a call at two lengths in Chromium" --rows "$scratch/page.html"
     looked_at "a call at two lengths on paper" --paper "$scratch/page.html"
     run "$lanes" --vl 512 --beside 640 --in mix --call 2 "$scratch/mix.elf"
-    ended_like "a long call beside another" 2 "svemu-lanes: at 512 bits the call has [0-9]+ steps, and 20000 are the most beside another length"
+    ended_like "a long call beside another" 2 \
+        "svemu-lanes: at 512 bits the call has [0-9]+ steps, and 20000 are the most beside another length"
 }
 
 # Two lengths without a call: steps in the same call of a function at one address stand side by side.
@@ -139,7 +141,8 @@ page_notes() {
     holds "a page of the whole probe" [ "$status" -eq 0 ]
     holds "it has what was written" grep -q 'writes 14 bytes: to the output\\\\n' "$scratch/output"
     holds "and how it ended" grep -Eq '"exit 3 after [0-9]+ steps"' "$scratch/output"
-    holds "aliases stand beside the texts" sh -c 'printf "%s\n" "$1" | grep -q "\"text\":\"movz w0, #3, lsl #0\",\"alias\":\"mov w0, #3\""' sh "$(instructions)"
+    holds "aliases stand beside the texts" \
+        sh -c 'printf "%s\n" "$1" | grep -q "\"text\":\"movz w0, #3, lsl #0\",\"alias\":\"mov w0, #3\""' sh "$(instructions)"
     run "$SVEMU" asm examples/lane_sum.s
     cp "$scratch/output" "$scratch/lane_sum.elf"
     run "$lanes" --vl 256 --watch 0x401028,4 --show z1.s "$scratch/lane_sum.elf"
@@ -155,7 +158,8 @@ page_notes() {
     cp "$scratch/output" "$scratch/overrun.elf"
     run "$lanes" --vl 256 --steps 5000 "$scratch/overrun.elf"
     holds "a page that ends by a trap" [ "$status" -eq 0 ]
-    holds "the step that trapped is its last" sh -c 'python3 tests/pages.py --data "$1" | tail -n 1 | grep -Eq "\"trap [a-z]+ 0x[0-9a-f]+ at 0x[0-9a-f]+ after [0-9]+ steps\""' sh "$scratch/output"
+    holds "the step that trapped is its last" \
+        sh -c 'python3 tests/pages.py --data "$1" | tail -n 1 | grep -Eq "\"trap [a-z]+ 0x[0-9a-f]+ at 0x[0-9a-f]+ after [0-9]+ steps\""' sh "$scratch/output"
 }
 
 # The pages over the lengths: those of the examples, and that of a guest which does otherwise from length to length.

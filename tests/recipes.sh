@@ -233,7 +233,8 @@ checking_in_ci() {
         cd "$top" || exit 1
         cp "$scratch/sum.c" "$scratch/recipe/sum.c"
         if [ -z "$change" ]; then
-            holds "a check in CI" sh -c '[ "$1" -eq 0 ] && grep -q "<title>What ran of ci.elf from 128 to 2048 bits<" "$2/ci.html" && grep -q "^TN:vl_2048" "$2/ci.info"' sh "$status" "$scratch/recipe"
+            holds "a check in CI" \
+                sh -c '[ "$1" -eq 0 ] && grep -q "<title>What ran of ci.elf from 128 to 2048 bits<" "$2/ci.html" && grep -q "^TN:vl_2048" "$2/ci.info"' sh "$status" "$scratch/recipe"
         else
             holds "a check in CI of a kernel with a bug" [ "$status" -eq 1 ]
         fi
@@ -335,7 +336,8 @@ reading_a_trap() {
         ! lacks "lines by $by" "$by" || continue
         [ "$by" = llvm-addr2line ] || sed -i 's/ -g / -gdwarf-4 /' "$scratch/commands"
         (cd "$scratch/recipe" && SVEMU_TOP="$checkout" sh -eu "$scratch/commands" && "$by" -f -e popcount.elf "0x$address") >"$scratch/output" 2>&1
-        holds "$by names the function and the line" sh -c 'grep -qx main "$1" && grep -q "popcount.c:6" "$1"' sh "$scratch/output"
+        holds "$by names the function and the line" \
+            sh -c 'grep -qx main "$1" && grep -q "popcount.c:6" "$1"' sh "$scratch/output"
     done
     holds "objdump names it" sh -c "aarch64-linux-gnu-objdump -d --start-address=0x$address --stop-address=\$((0x$address + 4)) '$scratch/recipe/popcount.elf' | grep -q 'cnt[[:space:]]*v0.8b'"
 }
@@ -387,7 +389,8 @@ cmake_recipe() {
     cd "$scratch/recipe" || exit 1
     run env SVEMU_TOP="$checkout" sh -eux "$scratch/commands"
     cd "$top" || exit 1
-    holds "CMake of a program of two files" sh -c "[ $status -eq 0 ] && grep -q '100% tests passed, 0 tests failed out of 12' '$scratch/output'"
+    holds "CMake of a program of two files" \
+        sh -c "[ $status -eq 0 ] && grep -q '100% tests passed, 0 tests failed out of 12' '$scratch/output'"
 }
 
 lit_recipe() {
@@ -415,14 +418,16 @@ lit_recipe() {
         sed 's/svcntd()) /svcntw()) /; s/== svcntd()/== svcntw()/' "$scratch/recipe/checked/lanes.c" >"$scratch/wrong.c"
         cp "$scratch/wrong.c" "$scratch/recipe/checked/lanes.c"
         run env SVEMU_TOP="$checkout" lit "$scratch/recipe/checked"
-        holds "lit with a wrong program" sh -c "[ $status -ne 0 ] && grep -Eq 'Failed *: *1|Unexpected Failures *: *1' '$scratch/output'"
+        holds "lit with a wrong program" \
+            sh -c "[ $status -ne 0 ] && grep -Eq 'Failed *: *1|Unexpected Failures *: *1' '$scratch/output'"
     fi
     if ! lacks "lit by clang" clang clang++ ld.lld; then
         checked_by_lit "lit by clang" "Run with lit, by clang:"
         sed 's/2 [*] lanes/4 * lanes/' "$scratch/recipe/checked/lanes_of_types.cc" >"$scratch/wrong.cc"
         cp "$scratch/wrong.cc" "$scratch/recipe/checked/lanes_of_types.cc"
         run env SVEMU_TOP="$checkout" lit --param by=clang "$scratch/recipe/checked"
-        holds "lit by clang with a wrong program" sh -c "[ $status -ne 0 ] && grep -Eq 'Failed *: *1|Unexpected Failures *: *1' '$scratch/output'"
+        holds "lit by clang with a wrong program" \
+            sh -c "[ $status -ne 0 ] && grep -Eq 'Failed *: *1|Unexpected Failures *: *1' '$scratch/output'"
     fi
     edited=
     PATH=$before

@@ -246,7 +246,8 @@ over_lengths() {
     sed -E 's/^vl ([0-9]+) exit 0 after [0-9]+ steps out 11 err 0 /\1 /' "$scratch/output" >"$scratch/got"
     holds "a bug at some lengths" cmp "$scratch/got" "$scratch/wanted"
     holds "its status is 1" [ "$status" -eq 1 ]
-    holds "the first length that fails" grep -qx 'svemu-lengths: examples/lost_sums.elf: at 384 bits its output parts from that at 128 bits at byte 4' "$scratch/errors"
+    holds "the first length that fails" \
+        grep -qx 'svemu-lengths: examples/lost_sums.elf: at 384 bits its output parts from that at 128 bits at byte 4' "$scratch/errors"
     printf 12345 >"$scratch/input"
     input=$scratch/input
     run "$lengths" "$probe" cat
@@ -256,13 +257,15 @@ over_lengths() {
     run "$lengths" "$probe" trap
     holds "traps, and bytes on standard error" awk '!/^vl [0-9]+ trap undefined 0x[0-9a-f]+ at 0x[0-9a-f]+ after [0-9]+ steps out 0 err 6 same$/ { bad = 1 } END { exit bad || NR != 16 }' "$scratch/output"
     holds "their status is 1" [ "$status" -eq 1 ]
-    holds "the length of the first trap" grep -qE "^svemu-lengths: $probe: at 128 bits it ends by trap undefined 0x[0-9a-f]+ at 0x[0-9a-f]+, and not by exit 0\$" "$scratch/errors"
+    holds "the length of the first trap" \
+        grep -qE "^svemu-lengths: $probe: at 128 bits it ends by trap undefined 0x[0-9a-f]+ at 0x[0-9a-f]+, and not by exit 0\$" "$scratch/errors"
     run "$lengths" --budget 5000 "$probe" spin
     holds "a spent budget at each length" [ "$status" -eq 1 ]
     holds "its line" grep -qx "svemu-lengths: $probe: at 128 bits it ends by spent, and not by exit 0" "$scratch/errors"
     run "$lengths" "$probe"
     holds "a status that isn't wanted" [ "$status" -eq 1 ]
-    holds "the line of that" grep -qx "svemu-lengths: $probe: at 128 bits it ends by exit 3, and not by exit 0" "$scratch/errors"
+    holds "the line of that" \
+        grep -qx "svemu-lengths: $probe: at 128 bits it ends by exit 3, and not by exit 0" "$scratch/errors"
     run "$lengths" --status 3 "$probe"
     holds "a status that is wanted" [ "$status" -eq 0 ]
     holds "no line of that" [ ! -s "$scratch/errors" ]
@@ -303,12 +306,15 @@ over_lengths() {
         "refused image TooManyPages\nsvemu-lengths: $probe needs more pages than it may have (SVEMU_PAGES gives more)\n"
     cp "$built" "$scratch/svemu-alone"
     run env SVEMU="$scratch/svemu-alone" PATH=/usr/bin:/bin "$lengths" "$scratch/empty"
-    ended "without svemu-tool" 122 '' "refused image TooShort\nsvemu-lengths: svemu-runner tells what $scratch/empty is\n"
+    ended "without svemu-tool" 122 \
+        '' "refused image TooShort\nsvemu-lengths: svemu-runner tells what $scratch/empty is\n"
     run env SVEMU="$scratch/nosuch" "$lengths" "$probe"
-    ended "no svemu at all lengths" 126 '' "svemu-lengths: there is no program $scratch/nosuch (svemu-runner --help says where it is looked for)\n"
+    ended "no svemu at all lengths" 126 \
+        '' "svemu-lengths: there is no program $scratch/nosuch (svemu-runner --help says where it is looked for)\n"
     for budget in x '' -1 1e9 010 18446744073709551616 99999999999999999999 100000000000000000000; do
         run "$lengths" --budget "$budget" "$probe"
-        ended "the budget '$budget'" 121 '' "svemu-lengths: --budget is '$budget': it may be a number from 0 to 18446744073709551615\n"
+        ended "the budget '$budget'" 121 \
+            '' "svemu-lengths: --budget is '$budget': it may be a number from 0 to 18446744073709551615\n"
     done
     run "$lengths" --status 3 --budget 18446744073709551615 "$probe"
     holds "the greatest budget" [ "$status" -eq 0 ]
@@ -321,7 +327,8 @@ over_lengths() {
     run env SVEMU_PAGES=x "$lengths" "$probe"
     ended "the variable's pages" 121 '' "svemu-lengths: SVEMU_PAGES is 'x': it may be a number from 1 to 1048576\n"
     run "$lengths" --budget=5 "$probe"
-    ended "an option and its value as one word" 121 '' 'svemu-lengths: --budget and its value are two words: --budget 5\n'
+    ended "an option and its value as one word" 121 \
+        '' 'svemu-lengths: --budget and its value are two words: --budget 5\n'
     run "$lengths" --status 256 "$probe"
     ended "a status past 255" 121 '' "svemu-lengths: --status is '256': it may be 0 to 255\n"
     run "$lengths" --length 128 "$probe"

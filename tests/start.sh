@@ -129,7 +129,8 @@ start_on_a_terminal() {
         printf '%s' "${asked:+$asked
 }$words
 " >"$scratch/calls"
-        holds "on a terminal: $words" sh -c '[ "$1" -eq 123 ] && diff "$2" "$3"' sh "$status" "$scratch/calls" "$scratch/called"
+        holds "on a terminal: $words" \
+            sh -c '[ "$1" -eq 123 ] && diff "$2" "$3"' sh "$status" "$scratch/calls" "$scratch/called"
     done <<'END'
 run p --vl 128 --budget 7|run p --vl 128 --budget 0
 run p --budget 9999999999999999999 --vl 128 -- --budget 5|run p --budget 0 --vl 128 -- --budget 0
@@ -142,7 +143,8 @@ dis p|
 END
     : >"$scratch/called"
     bare ./svemu run p --vl 128 --budget 7
-    holds "no such question elsewhere" sh -c '[ "$1" -eq 123 ] && [ "$(cat "$2")" = "run p --vl 128 --budget 7" ]' sh "$status" "$scratch/called"
+    holds "no such question elsewhere" \
+        sh -c '[ "$1" -eq 123 ] && [ "$(cat "$2")" = "run p --vl 128 --budget 7" ]' sh "$status" "$scratch/called"
     rm -r "$checkout/crates/svemu/out"
 }
 
@@ -281,7 +283,8 @@ start_builds() {
     ended "what was built is run, with no kit" 5 'second: a\n' ''
     holds "the libraries stay, and no work beside them" sh -c "cd '$scratch'/cache/svemu/*/crates/low/out && [ \"\$(ls)\" = rlib ]"
     with_kit ./svemu --version
-    holds "the version of what was built" grep -qx 'svemu 0.1.0, sources [0-9a-f]\{12\}, proved with rattle-kit-0 stand-in' "$scratch/output"
+    holds "the version of what was built" \
+        grep -qx 'svemu 0.1.0, sources [0-9a-f]\{12\}, proved with rattle-kit-0 stand-in' "$scratch/output"
     echo first >"$checkout/crates/svemu/src/main.rt"
     with_kit ./svemu a
     ended "sources of dist/ again, newer than what was built" 5 'first: a\n' ''
@@ -406,14 +409,18 @@ END
     rm -r "$checkout/crates/svemu/out"
     wants="make gate: the proofs want the Rattle kit, whose command rt isn't in the PATH (README says what it is); make check has the tests that need none"
     bare make -s gate
-    holds "no gate without the kit" sh -c '[ "$1" -eq 2 ] && [ ! -s "$2" ] && [ "$(head -n 1 "$3")" = "$4" ]' sh "$status" "$scratch/output" "$scratch/errors" "$wants"
+    holds "no gate without the kit" \
+        sh -c '[ "$1" -eq 2 ] && [ ! -s "$2" ] && [ "$(head -n 1 "$3")" = "$4" ]' sh "$status" "$scratch/output" "$scratch/errors" "$wants"
     # Another program of that name is no kit.
     bare env PATH="$scratch/another:$no_kit" make -s gate
-    holds "no gate by another rt" sh -c '[ "$1" -eq 2 ] && [ ! -s "$2" ] && [ "$(head -n 1 "$3")" = "$4" ]' sh "$status" "$scratch/output" "$scratch/errors" "$wants"
+    holds "no gate by another rt" \
+        sh -c '[ "$1" -eq 2 ] && [ ! -s "$2" ] && [ "$(head -n 1 "$3")" = "$4" ]' sh "$status" "$scratch/output" "$scratch/errors" "$wants"
     bare env PATH="$scratch/another:$no_kit" make -s check
-    ended "make check beside another rt" 0 'make check: the tests that need no proof, part by part, in some eight minutes (make gate proves everything, too)\ntools pass\n' ''
+    ended "make check beside another rt" 0 \
+        'make check: the tests that need no proof, part by part, in some eight minutes (make gate proves everything, too)\ntools pass\n' ''
     with_kit make -s check
-    ended "make check with the kit" 0 'make check: the tests that need no proof, part by part, in some eight minutes (make gate proves everything, too)\ntools pass\n' ''
+    ended "make check with the kit" 0 \
+        'make check: the tests that need no proof, part by part, in some eight minutes (make gate proves everything, too)\ntools pass\n' ''
 }
 
 install_without_kit() {

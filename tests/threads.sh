@@ -352,7 +352,8 @@ schedules_refused() {
     run "$schedules" --vl 100 5 "$probe"
     ended "schedules at no length" 2 '' 'svemu-schedules: --vl wants a multiple of 128 from 128 to 2048, not 100\n'
     run env SVEMU_VL=100 "$schedules" 5 "$probe"
-    ended "schedules at no length of the variable" 2 '' 'svemu-schedules: SVEMU_VL wants a multiple of 128 from 128 to 2048, not 100\n'
+    ended "schedules at no length of the variable" 2 \
+        '' 'svemu-schedules: SVEMU_VL wants a multiple of 128 from 128 to 2048, not 100\n'
     run "$schedules" --seed=2 5 "$probe"
     ended "an option and its value as one word" 2 '' 'svemu-schedules: --seed and its value are two words: --seed 2\n'
     run "$schedules" 5 "$scratch/nosuch"
@@ -376,7 +377,8 @@ schedules_refused() {
     run "$schedules" --bound 2 --budget 65537 "$probe"
     ended "too many steps to follow" 2 '' 'svemu-schedules: --bound wants a budget of at most 65536 steps, not 65537\n'
     run env SVEMU_BUDGET=65537 "$schedules" --bound 2 "$probe"
-    ended "too many by the variable" 2 '' 'svemu-schedules: --bound wants a budget of at most 65536 steps, not 65537 of SVEMU_BUDGET\n'
+    ended "too many by the variable" 2 \
+        '' 'svemu-schedules: --bound wants a budget of at most 65536 steps, not 65537 of SVEMU_BUDGET\n'
     run "$schedules" --bound 2 --budget 100 examples/lost_update.elf
     ended "a program that doesn't end" 2 '' \
         "svemu-schedules: without a switch the program doesn't end within 100 steps (--budget takes more)\n"

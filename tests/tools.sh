@@ -260,11 +260,13 @@ told_of_manual() {
         run ./svemu $words
         printf '%s' "${refusal:+$refusal
 }" >"$scratch/refusal"
-        holds "'$words' is refused" sh -c '[ "$1" -eq "$2" ] && cmp "$3" "$4"' sh "$status" "$status_wanted" "$scratch/errors" "$scratch/refusal"
+        holds "'$words' is refused" \
+            sh -c '[ "$1" -eq "$2" ] && cmp "$3" "$4"' sh "$status" "$status_wanted" "$scratch/errors" "$scratch/refusal"
         echo "svemu: $told" >>"$scratch/refusal"
         # shellcheck disable=SC2086
         run python3 tests/terminal.py ./svemu $words
-        holds "'$words' on a terminal" sh -c '[ "$1" -eq "$2" ] && diff "$3" "$4"' sh "$status" "$status_wanted" "$scratch/output" "$scratch/refusal"
+        holds "'$words' on a terminal" \
+            sh -c '[ "$1" -eq "$2" ] && diff "$3" "$4"' sh "$status" "$status_wanted" "$scratch/output" "$scratch/refusal"
     done <<END
 121|refused words BadLength at 3|'Refused lines' of $manual says what that is, and what to do|run $probe --vl 100 --budget 1
 121|refused words BadNumber at 5|'Refused lines' of $manual says what that is, and what to do|run $probe --vl 128 --budget 1e9
@@ -280,14 +282,16 @@ END
     printf 'mov x0, #122\nmov x8, #93\nsvc #0\n' >"$scratch/own.s"
     "$built" asm "$scratch/own.s" >"$scratch/own.elf"
     run python3 tests/terminal.py ./svemu run "$scratch/own.elf" --vl 128 --budget 100
-    holds "a program's own status on a terminal" sh -c '[ "$1" -eq 122 ] && head -n 1 "$2" | grep -qx "exit 122 after 3 steps" &&
+    holds "a program's own status on a terminal" \
+        sh -c '[ "$1" -eq 122 ] && head -n 1 "$2" | grep -qx "exit 122 after 3 steps" &&
         [ "$(wc -l <"$2")" -eq 86 ]' sh "$status" "$scratch/output"
     rm -f "$scratch/turns-once"
     mkfifo "$scratch/turns-once"
     echo '0 1' >"$scratch/turns-once" &
     run timeout 20 python3 tests/terminal.py ./svemu threads "$scratch/own.elf" "$scratch/turns-once" --vl 128 --budget 100
     wait
-    holds "a pipe is read once" sh -c '[ "$1" -eq 122 ] && head -n 1 "$2" | grep -qx "exit 122 after 3 steps"' sh "$status" "$scratch/output"
+    holds "a pipe is read once" \
+        sh -c '[ "$1" -eq 122 ] && head -n 1 "$2" | grep -qx "exit 122 after 3 steps"' sh "$status" "$scratch/output"
 }
 
 # The tools that were installed, by the program that was.
