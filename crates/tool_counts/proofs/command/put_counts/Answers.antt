@@ -1,3 +1,5 @@
+use Rattle.std.proofs.Common.{refl}
+use Rattle.tool_refusals.proofs.Endings.{done_leaves, write_leaves}
 use Rattle.tool_counts.proofs.Told.{then_told}
 use Rattle.tool_counts.specs.Counted.{stop_lines}
 use Rattle.tool_counts.proofs.command.put_counts.Goals as goal
@@ -6,3 +8,6 @@ pub returns-in-Ok-put_stops-clause-done : goal.returns-in-Ok-put_stops-clause-do
 returns-in-Ok-put_stops-clause-done g c = λ _.
     then_told (g.O.Sink.held c.args.output.now) (g.O.Sink.held c.put_all.new.sink) (g.O.Sink.held c.put_stops.new.output) c.as_bytes.result.now c.args.text.now (stop_lines c.args.headed c.args.stops.now)
     c.as_bytes.ensures.value c.in-Ok.ensures.bytes c.in-Ok-put_stops.ensures.bytes
+
+pub returns-in-Ok-put_stops-clause-leaves : goal.returns-in-Ok-put_stops-clause-leaves
+returns-in-Ok-put_stops-clause-leaves g c = done_leaves tt
