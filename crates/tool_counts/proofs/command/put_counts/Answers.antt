@@ -1,4 +1,5 @@
-use Rattle.std.proofs.Common.{refl}
+use Rattle.std.proofs.Common.{ℕ, subst}
+use Rattle.io_gate.specs.Streams.{Rose}
 use Rattle.tool_refusals.proofs.Endings.{done_leaves, write_leaves}
 use Rattle.tool_counts.proofs.Told.{then_told}
 use Rattle.tool_counts.specs.Counted.{stop_lines}
@@ -11,3 +12,10 @@ returns-in-Ok-put_stops-clause-done g c = λ _.
 
 pub returns-in-Ok-put_stops-clause-leaves : goal.returns-in-Ok-put_stops-clause-leaves
 returns-in-Ok-put_stops-clause-leaves g c = done_leaves tt
+
+pub returns-in-Err-clause-leaves : goal.returns-in-Err-clause-leaves
+returns-in-Err-clause-leaves g c = write_leaves c.in-Err.ensures.cause.failed tt
+
+pub returns-in-Err-put_stops-clause-leaves : goal.returns-in-Err-put_stops-clause-leaves
+returns-in-Err-put_stops-clause-leaves g c =
+    write_leaves (subst (λ (n : ℕ). Rose n (g.O.Sink.faults c.put_stops.new.output)) c.in-Ok.ensures.cause.kept c.in-Err-put_stops.ensures.cause.failed) tt

@@ -14,3 +14,6 @@ returns-in-Ok-trace_machine-clause-done g c = λ _.
 
 pub returns-in-Ok-trace_machine-clause-leaves : goal.returns-in-Ok-trace_machine-clause-leaves
 returns-in-Ok-trace_machine-clause-leaves g c = done_leaves tt
+
+pub returns-in-Err-clause-leaves : goal.returns-in-Err-clause-leaves
+returns-in-Err-clause-leaves g c = write_leaves c.in-Err.ensures.cause.failed tt
