@@ -1,4 +1,4 @@
-use Rattle.std.proofs.Common.{◌≡◌, ◌⊎◌, ℕ, false, IfErr, IfSome, List, Result, Ok, Err, map, string_bytes, refl, sym, ap, subst, ◌∙◌}
+use Rattle.std.proofs.Common.{◌≡◌, ◌⊎◌, ℕ, false, IfErr, IfSome, List, Result, Err, map, string_bytes, refl, sym, ap, subst, ◌∙◌}
 use Rattle.io_gate.specs.Streams.{Rose}
 use Rattle.command_lines.specs.declared.ending.Ending.{Ending}
 use Rattle.command_lines.specs.declared.ending.Ending.TheVariants.{Done, ErrorsFault, FileFault, OutOfMemory, ReadFault, WordsRefused, WriteFault}

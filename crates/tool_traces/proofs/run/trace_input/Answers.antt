@@ -1,8 +1,8 @@
-use Rattle.std.proofs.Common.{map, string_bytes, ap, refl}
+use Rattle.std.proofs.Common.{map, string_bytes, ap}
 use Rattle.elf_image.specs.Images.{seen_image}
 use Rattle.emu_machine.specs.Machines.{MachineState}
 use Rattle.emu_system.specs.Start.{opening}
-use Rattle.tool_refusals.proofs.Endings.{done_leaves, wanting_late, write_leaves}
+use Rattle.tool_refusals.proofs.Endings.{done_leaves, write_leaves}
 use Rattle.tool_traces.proofs.Told.{opened_told}
 use Rattle.tool_traces.proofs.run.trace_input.Goals as goal
 
@@ -15,5 +15,5 @@ returns-in-Ok-trace_machine-clause-done g c = λ _.
 pub returns-in-Ok-trace_machine-clause-leaves : goal.returns-in-Ok-trace_machine-clause-leaves
 returns-in-Ok-trace_machine-clause-leaves g c = done_leaves tt
 
-pub returns-in-Err-clause-leaves : goal.returns-in-Err-clause-leaves
-returns-in-Err-clause-leaves g c = write_leaves c.in-Err.ensures.cause.failed tt
+pub returns-clause-leaves : goal.returns-clause-leaves
+returns-clause-leaves g c = write_leaves c.in-Err.ensures.cause.failed tt
