@@ -25,13 +25,7 @@ fn line_of(alloc: Global, name: &str, said: &str) -> Result<String, AllocError> 
 
 /// The ending behind what is said of a thing on the errors: a fault of the errors where they failed. Nothing is put
 /// where memory is wanting for the line.
-pub fn say<E: Sink>(
-    alloc: Global,
-    name: &str,
-    said: &str,
-    ending: Ending,
-    errors: &mut E,
-) -> Ending
+pub fn say<E: Sink>(alloc: Global, name: &str, said: &str, ending: Ending, errors: &mut E) -> Ending
     ensures { IsSaid ending result (Rose (E.faults errors.old) (E.faults errors.new)) }
 {
     match line_of(alloc, name, said) {

@@ -1,4 +1,4 @@
-use Rattle.std.proofs.Common.{◌⊎◌, inl, inr, ℕ, List, map, string_bytes, refl, subst}
+use Rattle.std.proofs.Common.{◌⊎◌, ℕ, List, map, string_bytes, refl, subst}
 use Rattle.io_gate.specs.Images.{MissesNamed}
 use Rattle.io_gate.specs.Streams.{Rose}
 use Rattle.command_lines.specs.Outcome.{program_arguments}

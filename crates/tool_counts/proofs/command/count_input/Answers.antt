@@ -1,4 +1,4 @@
-use Rattle.std.proofs.Common.{ℕ, List, map, string_bytes, ap, refl, subst, ◌∙◌}
+use Rattle.std.proofs.Common.{ℕ, List, map, string_bytes, ap, subst, ◌∙◌}
 use Rattle.elf_image.specs.Images.{seen_image}
 use Rattle.word_counts.specs.Counts.{Counts, count_at}
 use Rattle.word_counts.specs.Lines.{count_lines}

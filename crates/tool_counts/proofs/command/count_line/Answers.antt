@@ -1,6 +1,5 @@
 use Rattle.std.proofs.Common.{◌≡◌, ◌⊎◌, false, IfSome, Ok, map, string_bytes, refl, sym, subst}
 use Rattle.io_gate.specs.Streams.{Rose}
-use Rattle.command_lines.specs.declared.ending.Ending.{Ending}
 use Rattle.command_lines.specs.declared.ending.Ending.TheVariants.{Done, OutOfMemory, WordsRefused}
 use Rattle.command_model.specs.declared.command_line.Line.{Line}
 use Rattle.commands.specs.Lines.{MissesFirst}

@@ -1,4 +1,4 @@
-use Rattle.std.proofs.Common.{◌≡◌, ◌⊎◌, false, IfSome, Result, Ok, Err, map, string_bytes, refl, sym, subst, ◌∙◌}
+use Rattle.std.proofs.Common.{◌≡◌, ◌⊎◌, false, IfSome, Result, Err, map, string_bytes, refl, sym, subst, ◌∙◌}
 use Rattle.io_gate.specs.Streams.{Rose}
 use Rattle.command_lines.specs.declared.ending.Ending.TheVariants.{Done, FileFault, ReadFault, WordsRefused, WriteFault}
 use Rattle.command_model.specs.declared.command_line.Line.{Line}
