@@ -1,5 +1,5 @@
 -- What a line tells, from what was put behind its runs.
-use Rattle.std.proofs.Common.{◌≡◌, ℕ, ◌+◌, ◌*◌, Bool, true, false, cond, if◌then◌else◌, nat_le, List, [], ◌∷◌, ◌++◌, get_or, length, Option, Some, None, IfSome, Result, Ok, Err, sym, ap, subst, ◌∙◌}
+use Rattle.std.proofs.Common.{◌≡◌, ℕ, ◌+◌, ◌*◌, Bool, true, false, cond, nat_le, List, [], ◌∷◌, ◌++◌, get_or, length, Option, Some, None, IfSome, Result, Ok, Err, refl, sym, ap, subst, ◌∙◌}
 use Rattle.std.proofs.lemmas.Option.{IfSome_then}
 use Rattle.std.specs.FinMap.{get}
 use Rattle.io_gate.specs.Images.{whole_file}
@@ -9,17 +9,20 @@ use Rattle.emu_system.specs.declared.image.ElfFault.{ElfFault}
 use Rattle.command_model.specs.Sweep.{Sweep, first_lengths, lengths}
 use Rattle.command_model.specs.SweepLaws.{lengths_more}
 use Rattle.command_model.specs.declared.command_line.Line.{Line}
-use Rattle.command_model.specs.declared.command_line.Line.TheVariants.{Run, Sweep as SweepLine}
+use Rattle.command_model.specs.declared.command_line.Line.TheVariants.{Run, Asm, Dis, Dbg, Load, Sweep as SweepLine, Threads}
 use Rattle.command_model.specs.declared.command_line.WordsFault.{WordsFault}
 use Rattle.command_lines.specs.Outcome.{Files, file_at, file_limit, program_arguments}
 use Rattle.command_lines.specs.declared.ending.Ending.{Ending}
-use Rattle.command_lines.specs.declared.ending.Ending.TheVariants.{ErrorsFault}
+use Rattle.command_lines.specs.declared.ending.Ending.TheVariants.{WordsRefused}
 use Rattle.word_counts.specs.Counts.{Counts, count_at}
 use Rattle.word_counts.specs.Lines.{count_lines}
 use Rattle.tool_counts.specs.Counted.{counted_text, stop_lines, sweep_of, AreCounted}
 use Rattle.tool_counts.specs.Written.{file_text, image_text, line_text, TellsText}
 use Rattle.tool_counts.specs.declared.stops.Stopped.{Stopped}
+use Rattle.tool_counts.specs.Endings.{other_command, EndsLine, RefusesLine}
 use Rattle.tool_counts.proofs.Runs.{whole_text}
+use Rattle.tool_refusals.specs.Endings.{IsSaid}
+use Rattle.tool_refusals.proofs.Endings.{said_or}
 
 -- ---- the lengths
 
@@ -32,12 +35,26 @@ more_lengths k bits before after at is so_far =
 pub sixteen : (k : ℕ) (all : List ℕ) → k ≡ 16 → all ≡ first_lengths k → all ≡ lengths
 sixteen k all end is = is ∙ ap (λ (n : ℕ). first_lengths n) end
 
--- ---- endings
+-- ---- a line of another command
 
--- an ending behind what was said of it is neither that ending nor a fault of the errors
-pub no_such : (said : Bool) (ending other result : Ending) → result ≡ (if said then ending else ErrorsFault) → (ending ≡ other → ⊥) → (ErrorsFault ≡ other → ⊥) → result ≡ other → ⊥
-no_such true ending other result is own fault e = own (sym is ∙ e)
-no_such false ending other result is own fault e = fault (sym is ∙ e)
+pub other_ends : (words : List (List ℕ)) (files : Files) (input : Option (List ℕ)) (line : Line) → ((file args bits budget pages : ℕ) → line ≡ Run file args bits budget pages → ⊥) → ((file args budget pages : ℕ) → line ≡ SweepLine file args budget pages → ⊥)
+    → EndsLine words files input (Ok line) (WordsRefused other_command)
+other_ends words files input (Run file args bits budget pages) run sweep = absurd (run file args bits budget pages refl)
+other_ends words files input (SweepLine file args budget pages) run sweep = absurd (sweep file args budget pages refl)
+other_ends words files input (Asm listing) run sweep = refl
+other_ends words files input (Dis file) run sweep = refl
+other_ends words files input (Dbg file script args bits budget pages) run sweep = refl
+other_ends words files input (Load number) run sweep = refl
+other_ends words files input (Threads file schedule args bits budget pages) run sweep = refl
+
+pub other_refused : {S : Type 0} (line : Line) (result : Ending) → IsSaid (WordsRefused other_command) result S → ((file args bits budget pages : ℕ) → line ≡ Run file args bits budget pages → ⊥) → ((file args budget pages : ℕ) → line ≡ SweepLine file args budget pages → ⊥) → RefusesLine (Ok line) result
+other_refused (Run file args bits budget pages) result said run sweep = absurd (run file args bits budget pages refl)
+other_refused (SweepLine file args budget pages) result said run sweep = absurd (sweep file args budget pages refl)
+other_refused (Asm listing) result said run sweep = said_or (WordsRefused other_command) result said
+other_refused (Dis file) result said run sweep = said_or (WordsRefused other_command) result said
+other_refused (Dbg file script args bits budget pages) result said run sweep = said_or (WordsRefused other_command) result said
+other_refused (Load number) result said run sweep = said_or (WordsRefused other_command) result said
+other_refused (Threads file schedule args bits budget pages) result said run sweep = said_or (WordsRefused other_command) result said
 
 -- ---- the counts
 

@@ -1,24 +1,26 @@
 //! The whole command.
 ghost use Rattle.std.specs.Prelude.{
   ◌≡◌,
-  ◌≢◌,
   ◌<◌,
   ◌≤◌,
   ◌+◌,
   ◌*◌,
+  ◌⊎◌,
   [],
   ◌∷◌,
   ◌++◌,
+  get_or,
   map,
   length,
   string_bytes,
-  if◌then◌else◌,
+  true,
+  false,
   IfOk,
   IfSome,
-  OnOk,
   Ok,
   Some,
 };
+ghost use Rattle.io_gate.specs.Images.{whole_file, MissesNamed};
 ghost use Rattle.io_gate.specs.Streams.{Rose};
 ghost use Rattle.elf_image.specs.Images.{seen_image};
 ghost use Rattle.elf_image.specs.Loadable.{IsLoadable};
@@ -27,27 +29,26 @@ ghost use Rattle.emu_system.specs.Image.{elf};
 ghost use Rattle.command_model.specs.CommandLine.{line as svemu_line};
 ghost use Rattle.command_model.specs.Sweep.{lengths};
 ghost use Rattle.command_lines.specs.LineLimits.{HasArguments, HasPlaces};
-ghost use Rattle.command_lines.specs.Outcome.{file_at, program_arguments};
+ghost use Rattle.command_lines.specs.Outcome.{file_at, file_limit, program_arguments};
+ghost use Rattle.commands.specs.Lines.{MissesFirst};
+ghost use Rattle.commands.specs.Promises.{is_failure, is_refusal};
 ghost use Rattle.word_counts.specs.Counts.{count_at};
 ghost use Rattle.word_counts.specs.Lines.{count_lines};
 ghost use Rattle.tool_counts.specs.Counted.{counted_text, stop_lines, sweep_of};
+ghost use Rattle.tool_counts.specs.Endings.{other_command, EndsLine, EndsProgram, RefusesLine};
+ghost use Rattle.tool_refusals.specs.Endings.{is_said, is_written, may_end, EndsImage, EndsOver, IsSaid, Leaves};
 ghost use Rattle.tool_counts.specs.Written.{file_text, image_text, line_text, TellsText};
 
 use crate::counted::count_at_lengths;
-use crate::refusals::{said_of_image, say, say_words};
+use crate::refusals::refuse_words;
 use crate::stops::{Stopped, put_stops};
-use command_lines::{Ending, Line, line_of_words, word};
+use command_lines::{Ending, Line, WordsFault, WordsWhy, line_of_words, word};
 use elf_image::{Image, read};
 use emu_model::Length;
-use io_gate::{Images, ImagesError, ReadEnd, Sink, Source, put_all, read_all};
+use io_gate::{Images, Sink, Source, put_all};
 use std::alloc::{AllocError, Global};
+use tool_refusals::{arguments, file_bytes, input_bytes, refuse_image};
 use word_counts::{WordCounts, push_lines};
-
-/// The most bytes of a file.
-const FILE_LIMIT: u64 = 67_108_864;
-
-/// The most bytes of the input.
-const INPUT_LIMIT: u64 = 16_777_216;
 
 /// Which runs a line counts.
 #[derive(Drop)]
@@ -66,41 +67,6 @@ struct Program {
     headed: bool,
 }
 
-/// An ending behind what is said of it on the errors.
-fn ended(said: bool, ending: Ending) -> Ending
-    ensures { result ≡ (if said then ending else Ending.ErrorsFault) }
-{
-    if said { ending } else { Ending::ErrorsFault }
-}
-
-/// The arguments of a program: the word that names its file, and the words from `args` on. Err is want of memory.
-fn arguments(
-    alloc: Global,
-    words: &[String],
-    file: usize,
-    args: usize,
-) -> Result<Vec<String>, AllocError>
-    requires file { file < length words.now }
-    requires args { args ≤ length words.now }
-    ensures { IfOk result
-        (λ list. map string_bytes list.items ≡ program_arguments (map string_bytes words.now) file args) }
-{
-    let mut list = Vec::new(alloc);
-    push_word(alloc, &mut list, word(words, file))?;
-    for place in args..words.len() {
-        push_word(alloc, &mut list, word(words, place))?;
-    }
-    Ok(list)
-}
-
-/// Appends a copy of a word. Err is want of memory.
-fn push_word(alloc: Global, list: &mut Vec<String>, text: &str) -> Result<(), AllocError>
-    ensures { OnOk result (map string_bytes list.new.items ≡ map string_bytes list.old.items ++ text.now ∷ []) }
-{
-    list.push(String::from_str(alloc, text)?)?;
-    Ok(())
-}
-
 /// Runs an image at each length over the input, which was read, and puts the counts.
 fn count_input<O: Sink>(
     alloc: Global,
@@ -117,8 +83,9 @@ fn count_input<O: Sink>(
         ++ counted_text (sweep_of bytes.now (seen_image image.now)
         (map string_bytes args.now) program.now.pages program.now.budget input.now)
         program.now.lengths.items program.now.headed)) }
-    ensures write_cause { result ≡ Ending.WriteFault → Rose (O.faults output.old) (O.faults output.new) }
-    ensures no_read { result ≢ Ending.ReadFault }
+    ensures ending { is_failure result ≡ false → result ≡ Ending.Done }
+    ensures leaves { Leaves result ⊥ (output.new ≡ output.old) (Unit {0}) ⊥ ⊥
+        (Rose (O.faults output.old) (O.faults output.new)) ⊥ }
 {
     let Ok(counted) = count_at_lengths(
         alloc,
@@ -142,8 +109,9 @@ fn count_input<O: Sink>(
 fn put_counts<O: Sink>(text: &str, headed: bool, stops: &[Stopped], output: &mut O) -> Ending
     ensures done { result ≡ Ending.Done → IfSome (O.held output.old)
         (λ had. O.held output.new ≡ Some (had ++ (text.now ++ stop_lines headed stops.now))) }
-    ensures write_cause { result ≡ Ending.WriteFault → Rose (O.faults output.old) (O.faults output.new) }
-    ensures no_read { result ≢ Ending.ReadFault }
+    ensures ending { is_failure result ≡ false → result ≡ Ending.Done }
+    ensures leaves { Leaves result ⊥ (output.new ≡ output.old) (Unit {0}) ⊥ ⊥
+        (Rose (O.faults output.old) (O.faults output.new)) ⊥ }
 {
     match put_all(output, text.as_bytes()) {
         Err(_) => Ending::WriteFault,
@@ -180,16 +148,13 @@ fn count_image<I: Source, O: Sink, E: Sink>(
         (λ had. O.held output.new ≡ Some (had ++ counted_text (sweep_of bytes.now (seen_image image.now)
         (map string_bytes args.now) program.now.pages program.now.budget i) program.now.lengths.items
         program.now.headed))) }
-    ensures read_cause { result ≡ Ending.ReadFault → Rose (I.faults input.old) (I.faults input.new) }
-    ensures write_cause { result ≡ Ending.WriteFault → Rose (O.faults output.old) (O.faults output.new) }
+    ensures ending { is_failure result ≡ false → EndsOver (I.left input.old) result }
+    ensures leaves { Leaves result (input.new ≡ input.old) (output.new ≡ output.old) (errors.new ≡ errors.old)
+        ⊥ (Rose (I.faults input.old) (I.faults input.new))
+        (Rose (O.faults output.old) (O.faults output.new)) (Rose (E.faults errors.old) (E.faults errors.new)) }
 {
-    match read_all(alloc, input, INPUT_LIMIT as usize) {
-        Err(ReadEnd::Failed) => Ending::ReadFault,
-        Err(ReadEnd::OutOfMemory) => Ending::OutOfMemory,
-        Err(ReadEnd::TooLong) => ended(
-            say(alloc, "the input", "has more than 16,777,216 bytes", errors),
-            Ending::TooLong(INPUT_LIMIT),
-        ),
+    match input_bytes(alloc, input, errors) {
+        Err(ending) => ending,
         Ok(given) => count_input(alloc, bytes, image, args, program, &given, output),
     }
 }
@@ -212,19 +177,14 @@ fn count_bytes<I: Source, O: Sink, E: Sink>(
         (λ had. TellsText (image_text bytes.now (program_arguments (map string_bytes words.now) program.now.file
         program.now.args) i program.now.budget program.now.pages program.now.lengths.items program.now.headed
         (elf bytes.now program.now.pages)) had (O.held output.new))) }
-    ensures read_cause { result ≡ Ending.ReadFault → Rose (I.faults input.old) (I.faults input.new) }
-    ensures write_cause { result ≡ Ending.WriteFault → Rose (O.faults output.old) (O.faults output.new) }
+    ensures ending { is_failure result ≡ false
+        → EndsImage (elf bytes.now program.now.pages) (EndsOver (I.left input.old)) result }
+    ensures leaves { Leaves result (input.new ≡ input.old) (output.new ≡ output.old) (errors.new ≡ errors.old)
+        ⊥ (Rose (I.faults input.old) (I.faults input.new))
+        (Rose (O.faults output.old) (O.faults output.new)) (Rose (E.faults errors.old) (E.faults errors.new)) }
 {
     match read(bytes, program.pages) {
-        Err(fault) => ended(
-            say(
-                alloc,
-                word(words, program.file),
-                said_of_image(bytes, fault),
-                errors,
-            ),
-            Ending::ImageRefused(fault),
-        ),
+        Err(fault) => refuse_image(alloc, word(words, program.file), bytes, fault, errors),
         Ok(image) => match arguments(alloc, words, program.file, program.args) {
             Err(_) => Ending::OutOfMemory,
             Ok(args) => count_image(alloc, bytes, &image, &args, program, input, output, errors),
@@ -251,21 +211,17 @@ fn count_file<F: Images, I: Source, O: Sink, E: Sink>(
         (file_at (map string_bytes words.now) named program.now.file)
         (program_arguments (map string_bytes words.now) program.now.file program.now.args) i program.now.budget
         program.now.pages program.now.lengths.items program.now.headed) had (O.held output.new)))) }
-    ensures read_cause { result ≡ Ending.ReadFault → Rose (I.faults input.old) (I.faults input.new) }
-    ensures write_cause { result ≡ Ending.WriteFault → Rose (O.faults output.old) (O.faults output.new) }
+    ensures ending { IfSome (F.named files.old) (λ named. is_failure result ≡ false
+        → EndsProgram (whole_file (file_at (map string_bytes words.now) named program.now.file) file_limit)
+        program.now.pages (I.left input.old) result) }
+    ensures leaves { Leaves result (input.new ≡ input.old) (output.new ≡ output.old) (errors.new ≡ errors.old)
+        (Rose (F.faults files.old) (F.faults files.new) ⊎ MissesNamed (F.named files.old)
+        (get_or (map string_bytes words.now) program.now.file [])) (Rose (I.faults input.old) (I.faults input.new))
+        (Rose (O.faults output.old) (O.faults output.new)) (Rose (E.faults errors.old) (E.faults errors.new)) }
 {
-    let name = word(words, program.file);
-    match files.read_whole(alloc, name, FILE_LIMIT as usize) {
+    match file_bytes(alloc, word(words, program.file), files, errors) {
+        Err(ending) => ending,
         Ok(bytes) => count_bytes(alloc, &bytes, words, program, input, output, errors),
-        Err(ImagesError::Failed) | Err(ImagesError::Missing) => ended(
-            say(alloc, name, "isn't there, or can't be read", errors),
-            Ending::FileFault,
-        ),
-        Err(ImagesError::TooLong) => ended(
-            say(alloc, name, "has more than 67,108,864 bytes", errors),
-            Ending::TooLong(FILE_LIMIT),
-        ),
-        Err(ImagesError::OutOfMemory) => Ending::OutOfMemory,
     }
 }
 
@@ -297,7 +253,7 @@ fn all_lengths(alloc: Global) -> Result<Vec<Length>, AllocError>
     Ok(all)
 }
 
-/// Counts what an accepted line runs. The words that `counted_words` gives make no line of another kind.
+/// Counts what an accepted line runs.
 fn count_line<F: Images, I: Source, O: Sink, E: Sink>(
     alloc: Global,
     words: &[String],
@@ -312,8 +268,13 @@ fn count_line<F: Images, I: Source, O: Sink, E: Sink>(
     ensures done { result ≡ Ending.Done → IfSome (F.named files.old) (λ named. IfSome (I.left input.old)
         (λ i. IfSome (O.held output.old) (λ had. TellsText
         (line_text (map string_bytes words.now) named i (Ok line.now)) had (O.held output.new)))) }
-    ensures read_cause { result ≡ Ending.ReadFault → Rose (I.faults input.old) (I.faults input.new) }
-    ensures write_cause { result ≡ Ending.WriteFault → Rose (O.faults output.old) (O.faults output.new) }
+    ensures ending { IfSome (F.named files.old) (λ named. is_failure result ≡ false
+        → EndsLine (map string_bytes words.now) named (I.left input.old) (Ok line.now) result) }
+    ensures refused { RefusesLine (Ok line.now) result }
+    ensures leaves { Leaves result (input.new ≡ input.old) (output.new ≡ output.old) (errors.new ≡ errors.old)
+        (Rose (F.faults files.old) (F.faults files.new)
+        ⊎ MissesFirst (map string_bytes words.now) (Ok line.now) (F.named files.old)) (Rose (I.faults input.old) (I.faults input.new))
+        (Rose (O.faults output.old) (O.faults output.new)) (Rose (E.faults errors.old) (E.faults errors.new)) }
 {
     match *line {
         Line::Run {
@@ -355,15 +316,28 @@ fn count_line<F: Images, I: Source, O: Sink, E: Sink>(
                 count_file(alloc, words, &program, files, input, output, errors)
             }
         },
-        _ => Ending::OutOfMemory,
+        _ => refuse_other(alloc, words, errors),
     }
+}
+
+/// Refuses the line of a command that runs no program at a length.
+fn refuse_other<E: Sink>(alloc: Global, words: &[String], errors: &mut E) -> Ending
+    ensures { IsSaid (Ending.WordsRefused other_command) result (Rose (E.faults errors.old) (E.faults errors.new)) }
+{
+    let fault = WordsFault {
+        why: WordsWhy::UnknownCommand,
+        place: 0,
+    };
+    refuse_words(alloc, words, &fault, errors)
 }
 
 /// Counts what the words of a line of `svemu` run, at its length, or where they sweep, at each: a line on each word
 /// that was executed, in order of addresses, with its count at each length, and then a line on each ending. The input
 /// is read to its end first, and is that of each run; what the program writes is dropped.
 ///
-/// The ending is Done where all lines were put.
+/// The ending is Done where all lines were put. Else it is WordsRefused where the line is refused, or of another command;
+/// FileFault where its file isn't there or can't be read; TooLong where the file has more than 67,108,864 bytes or the
+/// input more than 16,777,216; ImageRefused; ReadFault, WriteFault or ErrorsFault where a stream failed; or OutOfMemory.
 pub fn count_program<F: Images, I: Source, O: Sink, E: Sink>(
     alloc: Global,
     words: &[String],
@@ -376,15 +350,23 @@ pub fn count_program<F: Images, I: Source, O: Sink, E: Sink>(
         (λ i. IfSome (O.held output.old) (λ had. TellsText
         (line_text (map string_bytes words.now) named i (svemu_line (map string_bytes words.now))) had
         (O.held output.new)))) }
+    ensures ending { IfSome (F.named files.old) (λ named. is_failure result ≡ false
+        → EndsLine (map string_bytes words.now) named (I.left input.old) (svemu_line (map string_bytes words.now))
+        result) }
+    ensures refused { RefusesLine (svemu_line (map string_bytes words.now)) result }
+    ensures kind { may_end result ≡ true }
+    ensures file_cause { result ≡ Ending.FileFault → Rose (F.faults files.old) (F.faults files.new)
+        ⊎ MissesFirst (map string_bytes words.now) (svemu_line (map string_bytes words.now)) (F.named files.old) }
     ensures read_cause { result ≡ Ending.ReadFault → Rose (I.faults input.old) (I.faults input.new) }
     ensures write_cause { result ≡ Ending.WriteFault → Rose (O.faults output.old) (O.faults output.new) }
+    ensures errors_cause { result ≡ Ending.ErrorsFault → Rose (E.faults errors.old) (E.faults errors.new) }
+    ensures untaken { is_refusal result ≡ true → input.new ≡ input.old }
+    ensures unwritten { is_written result ≡ false → output.new ≡ output.old }
+    ensures silent { is_said result ≡ false → errors.new ≡ errors.old }
 {
     let read = line_of_words(words);
     match &read {
-        Err(fault) => ended(
-            say_words(alloc, words, fault, errors),
-            Ending::WordsRefused(*fault),
-        ),
+        Err(fault) => refuse_words(alloc, words, fault, errors),
         Ok(line) => count_line(alloc, words, line, files, input, output, errors),
     }
 }

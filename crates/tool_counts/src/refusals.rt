@@ -1,9 +1,11 @@
-//! What is said of what is refused or failed: which line stands for which refusal no contract says.
-use command_lines::{WordsFault, WordsWhy};
-use emu_system::ElfFault;
-use io_gate::{Sink, put_all};
-use std::alloc::{AllocError, Global};
-use tool_texts::{image_hint, push_file_line};
+//! What is said of a line that is refused: which text stands for which refusal no contract says.
+ghost use Rattle.io_gate.specs.Streams.{Rose};
+ghost use Rattle.tool_refusals.specs.Endings.{IsSaid};
+
+use command_lines::{Ending, WordsFault, WordsWhy};
+use io_gate::Sink;
+use std::alloc::Global;
+use tool_refusals::say_word;
 
 /// What is said of a word of a line, or of what the line has not.
 fn said_of_words(why: WordsWhy) -> &'static str {
@@ -25,50 +27,21 @@ fn said_of_words(why: WordsWhy) -> &'static str {
     }
 }
 
-/// The little-endian number of two bytes at an offset, and 0 where the file is shorter.
-fn halfword(bytes: &[u8], offset: usize) -> u16 {
-    if bytes.len() < 2 || bytes.len() - 2 < offset {
-        return 0;
-    }
-    bytes[offset] as u16 + 256 * bytes[offset + 1] as u16
-}
-
-/// What is said of a file that was refused as an image.
-pub fn said_of_image(bytes: &[u8], fault: ElfFault) -> &'static str {
-    image_hint(fault, halfword(bytes, 16), halfword(bytes, 18), false)
-}
-
-/// The line of a thing, and what is said of it. Err is want of memory.
-fn line_of(alloc: Global, name: &str, said: &str) -> Result<String, AllocError> {
-    let mut text = String::new(alloc);
-    push_file_line(&mut text, name, said)?;
-    Ok(text)
-}
-
-/// Puts what is said of a thing. Nothing is put where memory is wanting for that. False where the errors failed.
-pub fn say<E: Sink>(alloc: Global, name: &str, said: &str, errors: &mut E) -> bool {
-    match line_of(alloc, name, said) {
-        Err(_) => true,
-        Ok(text) => put_all(errors, text.as_bytes()).is_ok(),
-    }
-}
-
-/// Puts what is said of a line that is refused.
-pub fn say_words<E: Sink>(
+/// Refuses the words of a line.
+pub fn refuse_words<E: Sink>(
     alloc: Global,
     words: &[String],
     fault: &WordsFault,
     errors: &mut E,
-) -> bool {
-    let place = fault.place as usize;
-    if place < words.len() {
-        say(
-            alloc,
-            words[place].as_str(),
-            said_of_words(fault.why),
-            errors,
-        )
-    } else {
-        say(alloc, "the command line", said_of_words(fault.why), errors)
-    }
+) -> Ending
+    ensures { IsSaid (Ending.WordsRefused fault.now) result (Rose (E.faults errors.old) (E.faults errors.new)) }
+{
+    say_word(
+        alloc,
+        words,
+        fault.place as usize,
+        said_of_words(fault.why),
+        Ending::WordsRefused(*fault),
+        errors,
+    )
 }

@@ -1,6 +1,5 @@
 -- What was put, as what a line asks for.
-use Rattle.std.proofs.Common.{◌≡◌, ◌<◌, ◌≤◌, ◌-◌, ℕ, ◌+◌, Bool, true, false, cond, if◌then◌else◌, nat_le, List, [], ◌∷◌, ◌++◌, get_or, drop, drop-cons, length, Option, Some, None, IfSome, Result, Ok, Err, IfOk, sym, ap, ap₂, subst, ◌∙◌, append_assoc, append-nil, add-one}
-use Rattle.std.proofs.lemmas.List.{drop_all}
+use Rattle.std.proofs.Common.{◌≡◌, ◌-◌, ℕ, Bool, true, false, cond, if◌then◌else◌, nat_le, List, [], get_or, length, Option, Some, None, IfSome, Result, Ok, Err, IfOk, refl, sym, ap, ap₂, subst, ◌∙◌}
 use Rattle.std.proofs.lemmas.Option.{IfSome_then}
 use Rattle.std.specs.FinMap.{get}
 use Rattle.io_gate.specs.Images.{whole_file}
@@ -8,7 +7,7 @@ use Rattle.io_gate.specs.declared.images.ImagesError.{ImagesError}
 use Rattle.command_lines.specs.Outcome.{Files, file_at, file_limit, program_arguments}
 use Rattle.command_model.specs.CommandLine.{line as svemu_line}
 use Rattle.command_model.specs.declared.command_line.Line.{Line}
-use Rattle.command_model.specs.declared.command_line.Line.TheVariants.{Run}
+use Rattle.command_model.specs.declared.command_line.Line.TheVariants.{Run, Asm, Dis, Dbg, Load, Sweep, Threads}
 use Rattle.command_model.specs.declared.command_line.WordsFault.{WordsFault}
 use Rattle.dbg_model.specs.Session.{step_line as stopped_line}
 use Rattle.elf_symbols.specs.declared.Symbol.{Symbol}
@@ -29,22 +28,11 @@ use Rattle.trace_options.specs.Places.{window_of}
 use Rattle.trace_options.specs.RunWords.{run_words}
 use Rattle.trace_options.specs.Showing.{shown_at}
 use Rattle.trace_options.specs.Windows.{first_stage}
+use Rattle.command_lines.specs.declared.ending.Ending.{Ending}
+use Rattle.command_lines.specs.declared.ending.Ending.TheVariants.{WordsRefused}
+use Rattle.tool_traces.specs.Endings.{other_command, EndsAsked, EndsLine, EndsSymbols, IsAskedBy}
 use Rattle.tool_traces.specs.Traced.{file_traced, image_traced, line_traced, given_traced, traced, traced_of, IsAsked, IsWindowOf, SomeTraces, Traced, Traces}
 use Rattle.tool_traces.specs.declared.asked.Asked.{Asked}
-
--- ---- words that are copied one after the other
-
--- one more copied is one less left
-pub copied_more : (copied words : List (List ℕ)) (place : ℕ) (word : List ℕ) → place < length words → word ≡ get_or words place []
-    → (copied ++ word ∷ []) ++ drop (place + 1) words ≡ copied ++ drop place words
-copied_more copied words place word h is =
-    append_assoc copied (word ∷ []) (drop (place + 1) words)
-    ∙ ap (λ (x : List ℕ). copied ++ x ∷ drop (place + 1) words) is
-    ∙ ap (λ (xs : List (List ℕ)). copied ++ xs) (ap (λ (k : ℕ). get_or words place [] ∷ drop k words) (add-one place) ∙ sym (drop-cons words place [] h))
-
--- none is left
-pub copied_all : (copied words : List (List ℕ)) (place : ℕ) → length words ≤ place → copied ++ drop place words ≡ copied
-copied_all copied words place h = ap (λ (xs : List (List ℕ)). copied ++ xs) (drop_all place words h) ∙ append-nil copied
 
 -- ---- what is asked for
 
@@ -59,6 +47,11 @@ asked_both file words given shown window (Ok asked) s w is found = record {
   window = subst (λ (x : Result Window TraceFault). IfOk x (IsWindowOf file words given)) (sym w) found;
 }
 asked_both file words given shown window (Err fault) s w is found = tt
+
+-- by what is asked for
+pub symbols_end : (file : List ℕ) (words : List (List ℕ)) (given : Given) (r x : Result Asked TraceFault) (input : Option (List ℕ)) (ending : Ending) → r ≡ x → IsAskedBy file words given r → EndsAsked x input ending
+    → EndsSymbols file words given input ending
+symbols_end file words given r x input ending is theirs ends = record { asked = r; theirs = theirs; ends = subst (λ (y : Result Asked TraceFault). EndsAsked y input ending) (sym is) ends }
 
 -- ---- the lines, and the one behind them
 
@@ -142,3 +135,15 @@ module _ (words : List (List ℕ)) (named : Option Files) (left old new : Option
   given_told same given is read told =
       subst (λ (r : Result Given TraceFault). IfSome named (λ files. IfSome left (λ i. SomeTraces words (given_traced words files r) i old new))) read
       (subst (λ (xs : List (List ℕ)). IfSome named (λ files. IfSome left (λ i. SomeTraces words (line_traced xs given files (svemu_line xs)) i old new))) is told)
+
+-- ---- a line of another command
+
+pub other_ends : (words same : List (List ℕ)) (given : Given) (files : Files) (input : Option (List ℕ)) (line : Line) → ((file args bits budget pages : ℕ) → line ≡ Run file args bits budget pages → ⊥)
+    → EndsLine words same given files input (Ok line) (WordsRefused other_command)
+other_ends words same given files input (Run file args bits budget pages) run = absurd (run file args bits budget pages refl)
+other_ends words same given files input (Sweep file args budget pages) run = refl
+other_ends words same given files input (Asm listing) run = refl
+other_ends words same given files input (Dis file) run = refl
+other_ends words same given files input (Dbg file script args bits budget pages) run = refl
+other_ends words same given files input (Load number) run = refl
+other_ends words same given files input (Threads file schedule args bits budget pages) run = refl

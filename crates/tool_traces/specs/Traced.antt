@@ -1,9 +1,7 @@
 -- What `svemu-tool trace` writes, by the words of its line: `SomeTraces`, of the run that `traced` tells, is the whole
 -- of it.
-use Rattle.std.specs.Prelude.{◌≡◌, ◌≢◌, ℕ, List, MatchOption, Option, Some, None, Result, Ok, Err}
+use Rattle.std.specs.Prelude.{◌≡◌, ℕ, List, MatchOption, Option, Some, None, Result, Ok, Err}
 use Rattle.command_lines.specs.Outcome.{Files, file_at, program_arguments}
-use Rattle.command_lines.specs.declared.ending.Ending.{Ending}
-use Rattle.command_lines.specs.declared.ending.Ending.TheVariants.{Done, ReadFault, WriteFault}
 use Rattle.command_model.specs.CommandLine.{line}
 use Rattle.command_model.specs.declared.command_line.Line.{Line}
 use Rattle.command_model.specs.declared.command_line.Line.TheVariants.{Run, Asm, Dis, Dbg, Load, Sweep, Threads}
@@ -93,11 +91,3 @@ pub record Traces (words : List (List ℕ)) (t : Traced) (input : List ℕ) (old
 -- all was written only where there is such a run
 abbrev pub SomeTraces : List (List ℕ) → Option Traced → List ℕ → Option (List ℕ) → Option (List ℕ) → Type 0
 SomeTraces words run input old new = MatchOption run ⊥ (λ t. Traces words t input old new)
-
--- ---- endings
-
--- neither that all was written, nor that the input or the output failed
-pub record IsRefusal (ending : Ending) : Type 0 where
-  pub done : ending ≢ Done
-  pub read : ending ≢ ReadFault
-  pub write : ending ≢ WriteFault

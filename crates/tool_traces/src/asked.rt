@@ -1,9 +1,8 @@
-//! What a line asks for: what of which steps is told, and the arguments of the program.
-ghost use Rattle.std.specs.Prelude.{◌≡◌, ◌<◌, ◌≤◌, [], ◌∷◌, ◌++◌, length, map, string_bytes, IfOk, OnOk, Ok};
-ghost use Rattle.command_lines.specs.Outcome.{program_arguments};
+//! What a line asks for: what of which steps is told.
+ghost use Rattle.std.specs.Prelude.{◌≡◌, map, string_bytes, IfOk, Ok};
+ghost use Rattle.tool_traces.specs.Endings.{asked_by, IsAskedBy, IsWindowBy};
 ghost use Rattle.tool_traces.specs.Traced.{IsAsked, IsWindowOf};
 
-use command_lines::word;
 use elf_symbols::symbols;
 use std::alloc::{AllocError, Global};
 use trace_options::{Given, Shown, TraceFault, Window, shown_of, window_of};
@@ -22,7 +21,8 @@ fn window_by(
     words: &[String],
     given: &Given,
 ) -> Result<Result<Window, TraceFault>, AllocError>
-    ensures { IfOk result (λ found. IfOk found (IsWindowOf bytes.now (map string_bytes words.now) given.now)) }
+    ensures window { IfOk result (λ found. IfOk found (IsWindowOf bytes.now (map string_bytes words.now) given.now)) }
+    ensures by { IfOk result (IsWindowBy bytes.now (map string_bytes words.now) given.now) }
 {
     let found = symbols(alloc, bytes)?;
     Ok(window_of(&found, words, given))
@@ -35,6 +35,7 @@ fn both(
 ) -> Result<Asked, TraceFault>
     ensures shown { IfOk result (λ asked. Ok asked.shown ≡ shown) }
     ensures window { IfOk result (λ asked. Ok asked.window ≡ window) }
+    ensures both { result ≡ asked_by shown window }
 {
     match shown {
         Err(fault) => Err(fault),
@@ -52,37 +53,10 @@ pub fn asked_of(
     words: &[String],
     given: &Given,
 ) -> Result<Result<Asked, TraceFault>, AllocError>
-    ensures { IfOk result (λ asked. IfOk asked (IsAsked bytes.now (map string_bytes words.now) given.now)) }
+    ensures asked { IfOk result (λ asked. IfOk asked (IsAsked bytes.now (map string_bytes words.now) given.now)) }
+    ensures by { IfOk result (IsAskedBy bytes.now (map string_bytes words.now) given.now) }
 {
     let shown = shown_of(alloc, words, given.show)?;
     let window = window_by(alloc, bytes, words, given)?;
     Ok(both(shown, window))
-}
-
-/// Appends a copy of a word. Err is want of memory.
-fn push_word(alloc: Global, list: &mut Vec<String>, text: &str) -> Result<(), AllocError>
-    ensures { OnOk result (map string_bytes list.new.items ≡ map string_bytes list.old.items ++ text.now ∷ []) }
-{
-    list.push(String::from_str(alloc, text)?)?;
-    Ok(())
-}
-
-/// The arguments of a program: the word that names its file, and the words from `args` on. Err is want of memory.
-pub fn arguments(
-    alloc: Global,
-    words: &[String],
-    file: usize,
-    args: usize,
-) -> Result<Vec<String>, AllocError>
-    requires file { file < length words.now }
-    requires args { args ≤ length words.now }
-    ensures { IfOk result
-        (λ list. map string_bytes list.items ≡ program_arguments (map string_bytes words.now) file args) }
-{
-    let mut list = Vec::new(alloc);
-    push_word(alloc, &mut list, word(words, file))?;
-    for place in args..words.len() {
-        push_word(alloc, &mut list, word(words, place))?;
-    }
-    Ok(list)
 }

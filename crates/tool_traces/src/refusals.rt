@@ -1,18 +1,14 @@
-//! What is said of what is refused or failed: which line stands for which refusal no contract says.
-ghost use Rattle.tool_traces.specs.Traced.{IsRefusal};
+//! What is said of a line that is refused: which text stands for which refusal no contract says.
+ghost use Rattle.std.specs.Prelude.{◌≡◌};
+ghost use Rattle.io_gate.specs.Streams.{Rose};
+ghost use Rattle.tool_refusals.specs.Endings.{IsSaid};
+ghost use Rattle.tool_traces.specs.Endings.{option_fault, other_command};
 
 use command_lines::{Ending, WordsFault, WordsWhy};
-use emu_system::ElfFault;
-use io_gate::{Sink, put_all};
-use std::alloc::{AllocError, Global};
-use tool_texts::{image_hint, push_file_line};
+use io_gate::Sink;
+use std::alloc::Global;
+use tool_refusals::say_word;
 use trace_options::{TraceFault, TraceWhy};
-
-/// The most bytes of a file.
-pub const FILE_LIMIT: u64 = 67_108_864;
-
-/// The most bytes of the input.
-pub const INPUT_LIMIT: u64 = 16_777_216;
 
 /// What is said of a word of a line, or of what the line has not.
 fn said_of_words(why: WordsWhy) -> &'static str {
@@ -48,153 +44,62 @@ fn said_of_option(why: TraceWhy) -> &'static str {
     }
 }
 
-/// The little-endian number of two bytes at an offset, and 0 where the file is shorter.
-fn halfword(bytes: &[u8], offset: usize) -> u16 {
-    if bytes.len() < 2 || bytes.len() - 2 < offset {
-        return 0;
-    }
-    bytes[offset] as u16 + 256 * bytes[offset + 1] as u16
-}
-
-/// What is said of a file that was refused as an image.
-fn said_of_image(bytes: &[u8], fault: ElfFault) -> &'static str {
-    image_hint(fault, halfword(bytes, 16), halfword(bytes, 18), false)
-}
-
-/// The line of a thing, and what is said of it. Err is want of memory.
-fn line_of(alloc: Global, name: &str, said: &str) -> Result<String, AllocError> {
-    let mut text = String::new(alloc);
-    push_file_line(&mut text, name, said)?;
-    Ok(text)
-}
-
-/// Puts what is said of a thing. Nothing is put where memory is wanting for that. False where the errors failed.
-fn say<E: Sink>(alloc: Global, name: &str, said: &str, errors: &mut E) -> bool {
-    match line_of(alloc, name, said) {
-        Err(_) => true,
-        Ok(text) => put_all(errors, text.as_bytes()).is_ok(),
-    }
-}
-
-/// Puts what is said of the word at a place, or of the whole line where there is no such word. False where the errors
-/// failed.
-fn say_word<E: Sink>(
-    alloc: Global,
-    words: &[String],
-    place: usize,
-    said: &str,
-    errors: &mut E,
-) -> bool {
-    if place < words.len() {
-        say(alloc, words[place].as_str(), said, errors)
-    } else {
-        say(alloc, "the command line", said, errors)
-    }
-}
-
 /// Refuses the words of a run.
-#[tactic(auto, using(crate::proofs::Endings::refusals))]
 pub fn refuse_words<E: Sink>(
     alloc: Global,
     words: &[String],
     fault: &WordsFault,
     errors: &mut E,
 ) -> Ending
-    ensures { IsRefusal result }
+    ensures { IsSaid (Ending.WordsRefused fault.now) result (Rose (E.faults errors.old) (E.faults errors.new)) }
 {
-    if say_word(
+    say_word(
         alloc,
         words,
         fault.place as usize,
         said_of_words(fault.why),
+        Ending::WordsRefused(*fault),
         errors,
-    ) {
-        Ending::WordsRefused(*fault)
-    } else {
-        Ending::ErrorsFault
-    }
+    )
 }
 
 /// The refusal of a line that has the same status.
-fn status_fault(fault: &TraceFault) -> WordsFault {
-    let place = if fault.place < 300 {
-        fault.place as u32
-    } else {
-        300
-    };
+fn status_fault(fault: &TraceFault) -> WordsFault
+    ensures { result ≡ option_fault fault.now }
+{
     WordsFault {
         why: WordsWhy::UnknownOption,
-        place,
+        place: fault.place.min(300) as u32,
     }
 }
 
 /// Refuses an option that `run` hasn't.
-#[tactic(auto, using(crate::proofs::Endings::refusals))]
 pub fn refuse_option<E: Sink>(
     alloc: Global,
     words: &[String],
     fault: &TraceFault,
     errors: &mut E,
 ) -> Ending
-    ensures { IsRefusal result }
+    ensures { IsSaid (Ending.WordsRefused (option_fault fault.now)) result
+        (Rose (E.faults errors.old) (E.faults errors.new)) }
 {
-    if say_word(alloc, words, fault.place, said_of_option(fault.why), errors) {
-        Ending::WordsRefused(status_fault(fault))
-    } else {
-        Ending::ErrorsFault
-    }
+    say_word(
+        alloc,
+        words,
+        fault.place,
+        said_of_option(fault.why),
+        Ending::WordsRefused(status_fault(fault)),
+        errors,
+    )
 }
 
-/// Refuses a file of a name as an image.
-#[tactic(auto, using(crate::proofs::Endings::refusals))]
-pub fn refuse_image<E: Sink>(
-    alloc: Global,
-    name: &str,
-    bytes: &[u8],
-    fault: ElfFault,
-    errors: &mut E,
-) -> Ending
-    ensures { IsRefusal result }
+/// Refuses the line of a command that runs no program at one length.
+pub fn refuse_other<E: Sink>(alloc: Global, words: &[String], errors: &mut E) -> Ending
+    ensures { IsSaid (Ending.WordsRefused other_command) result (Rose (E.faults errors.old) (E.faults errors.new)) }
 {
-    if say(alloc, name, said_of_image(bytes, fault), errors) {
-        Ending::ImageRefused(fault)
-    } else {
-        Ending::ErrorsFault
-    }
-}
-
-/// Says that a file of a name can't be read.
-#[tactic(auto, using(crate::proofs::Endings::refusals))]
-pub fn miss_file<E: Sink>(alloc: Global, name: &str, errors: &mut E) -> Ending
-    ensures { IsRefusal result }
-{
-    if say(alloc, name, "isn't there, or can't be read", errors) {
-        Ending::FileFault
-    } else {
-        Ending::ErrorsFault
-    }
-}
-
-/// Refuses a file of a name that is too long.
-#[tactic(auto, using(crate::proofs::Endings::refusals))]
-pub fn refuse_long_file<E: Sink>(alloc: Global, name: &str, errors: &mut E) -> Ending
-    ensures { IsRefusal result }
-{
-    if say(alloc, name, "has more than 67,108,864 bytes", errors) {
-        Ending::TooLong(FILE_LIMIT)
-    } else {
-        Ending::ErrorsFault
-    }
-}
-
-/// Refuses an input that is too long.
-#[tactic(auto, using(crate::proofs::Endings::refusals))]
-pub fn refuse_long_input<E: Sink>(alloc: Global, errors: &mut E) -> Ending
-    ensures { IsRefusal result }
-{
-    if say(alloc, "the input", "has more than 16,777,216 bytes", errors) {
-        Ending::TooLong(INPUT_LIMIT)
-    } else {
-        Ending::ErrorsFault
-    }
+    let fault = WordsFault {
+        why: WordsWhy::UnknownCommand,
+        place: 0,
+    };
+    refuse_words(alloc, words, &fault, errors)
 }

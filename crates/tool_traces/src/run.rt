@@ -1,26 +1,28 @@
 //! The run of an image whose steps are told.
-ghost use Rattle.std.specs.Prelude.{◌≡◌, ◌≢◌, map, string_bytes, false, IfSome, OnOk};
+ghost use Rattle.std.specs.Prelude.{◌≡◌, map, string_bytes, false, IfSome, OnOk};
 ghost use Rattle.io_gate.specs.Pieces.{PutsAll};
 ghost use Rattle.io_gate.specs.Streams.{Rose, HasCause};
 ghost use Rattle.elf_image.specs.Images.{seen_image};
 ghost use Rattle.elf_image.specs.Loadable.{IsLoadable};
 ghost use Rattle.emu_system.specs.ArgumentLimits.{AreArguments};
 ghost use Rattle.emu_system.specs.Start.{opening};
+ghost use Rattle.commands.specs.Promises.{is_failure};
+ghost use Rattle.tool_refusals.specs.Endings.{EndsOver, Leaves};
 ghost use Rattle.emu_machine.specs.Machines.{has_ended};
 ghost use Rattle.emu_run.specs.Reports.{ending_line};
 ghost use Rattle.trace_lines.specs.Lines.{HasGained};
 ghost use Rattle.step_traces.specs.Traces.{closing_line, trace_text};
 
 use crate::asked::Asked;
-use crate::refusals::{INPUT_LIMIT, refuse_long_input};
 use command_lines::Ending;
 use elf_image::Image;
 use emu_machine::{Ended, Machine};
 use emu_model::Length;
 use emu_report::{put_exit, put_spent, put_step, put_trap};
-use io_gate::{Failed, ReadEnd, Sink, Source, read_all};
+use io_gate::{Failed, Sink, Source};
 use std::alloc::Global;
 use step_traces::trace;
+use tool_refusals::input_bytes;
 
 /// The run that a line says: the places of the words that name the file and the first argument, or the number of words;
 /// the vector length, the greatest number of steps, and the greatest number of mapped pages.
@@ -103,8 +105,9 @@ fn trace_input<O: Sink>(
     ensures done { result ≡ Ending.Done → HasGained (O.held output.old) (O.held output.new)
         (trace_text asked.now.shown asked.now.window (opening bytes.now (seen_image image.now)
         (map string_bytes args.now) program.now.length program.now.pages) input.now program.now.budget) }
-    ensures write_cause { result ≡ Ending.WriteFault → Rose (O.faults output.old) (O.faults output.new) }
-    ensures no_read { result ≢ Ending.ReadFault }
+    ensures ending { is_failure result ≡ false → result ≡ Ending.Done }
+    ensures leaves { Leaves result ⊥ (output.new ≡ output.old) (Unit {0}) ⊥ ⊥
+        (Rose (O.faults output.old) (O.faults output.new)) ⊥ }
 {
     let (length, pages) = (program.length, program.pages);
     let Ok(mut machine) = Machine::open(alloc, bytes, image, args, length, pages) else {
@@ -144,13 +147,13 @@ pub fn trace_image<I: Source, O: Sink, E: Sink>(
         (O.held output.new) (trace_text asked.now.shown asked.now.window (opening bytes.now
         (seen_image image.now) (map string_bytes args.now) program.now.length program.now.pages) i
         program.now.budget)) }
-    ensures read_cause { result ≡ Ending.ReadFault → Rose (I.faults input.old) (I.faults input.new) }
-    ensures write_cause { result ≡ Ending.WriteFault → Rose (O.faults output.old) (O.faults output.new) }
+    ensures ending { is_failure result ≡ false → EndsOver (I.left input.old) result }
+    ensures leaves { Leaves result (input.new ≡ input.old) (output.new ≡ output.old) (errors.new ≡ errors.old)
+        ⊥ (Rose (I.faults input.old) (I.faults input.new))
+        (Rose (O.faults output.old) (O.faults output.new)) (Rose (E.faults errors.old) (E.faults errors.new)) }
 {
-    match read_all(alloc, input, INPUT_LIMIT as usize) {
-        Err(ReadEnd::Failed) => Ending::ReadFault,
-        Err(ReadEnd::OutOfMemory) => Ending::OutOfMemory,
-        Err(ReadEnd::TooLong) => refuse_long_input(alloc, errors),
+    match input_bytes(alloc, input, errors) {
+        Err(ending) => ending,
         Ok(given) => trace_input(alloc, bytes, image, args, program, asked, &given, output),
     }
 }

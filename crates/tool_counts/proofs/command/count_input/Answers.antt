@@ -14,3 +14,9 @@ returns-clause-done g c = λ done.
     (subst (λ (xs : List ℕ). AreCounted s xs c.in-Ok.counted.tables.items c.in-Ok.counted.stops.items) c.deref.ensures.value c.in-Ok.ensures)
     (c.as_str.ensures.value ∙ c.in-Ok-text_of.ensures ∙ ap (λ (ts : List Counts). count_lines count_at ts) c.deref-2.ensures.value)
     c.deref-3.ensures.value (c.put_counts.ensures.done done)
+
+pub returns-clause-ending : goal.returns-clause-ending
+returns-clause-ending g c = c.put_counts.ensures.ending
+
+pub returns-clause-leaves : goal.returns-clause-leaves
+returns-clause-leaves g c = c.put_counts.ensures.leaves

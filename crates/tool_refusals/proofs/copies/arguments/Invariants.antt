@@ -1,6 +1,6 @@
 use Rattle.std.proofs.Common.{◌≡◌, ◌++◌, drop, map, string_bytes}
 use Rattle.command_lines.specs.Outcome.{program_arguments}
-use Rattle.tool_traces.proofs.asked.arguments.Given as goal
+use Rattle.tool_refusals.proofs.copies.arguments.Given as goal
 
 -- the words that are left are the other arguments
 abbrev pub invariant-loop-place : goal.invariant-loop-place

@@ -1,7 +1,7 @@
 use Rattle.std.proofs.Common.{List, ℕ, ◌+◌, ◌++◌, drop, map, string_bytes, sym, ap, ◌∙◌, arith}
 use Rattle.std.proofs.lemmas.List.{length-map}
-use Rattle.tool_traces.proofs.Told.{copied_all, copied_more}
-use Rattle.tool_traces.proofs.asked.arguments.Goals as goal
+use Rattle.tool_refusals.proofs.Copied.{copied_all, copied_more}
+use Rattle.tool_refusals.proofs.copies.arguments.Goals as goal
 
 pub loop-place-init : goal.loop-place-init
 loop-place-init c = rw (c.in_ok-push_word.ensures, c.new-list.ensures.items, c.word.ensures)
