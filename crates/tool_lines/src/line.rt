@@ -19,7 +19,7 @@ use crate::words::word;
 use thiserror::Error;
 
 /// An option of `run`.
-#[derive(Clone, Copy, Debug, PartialEq, Eq)]
+#[derive(Clone, Copy)]
 pub enum ToolOption {
     /// `--vl N`: the vector length in bits.
     Vl,
@@ -39,7 +39,7 @@ pub enum ToolOption {
 
 /// A run: the place of the word that names the program, behind which its arguments stand, and those of the values of
 /// options, the last where one is given twice. Places are counted from 0.
-#[derive(Clone, Copy, Debug, PartialEq, Eq)]
+#[derive(Clone, Copy)]
 pub struct RunLine {
     pub program: usize,
     pub length: Option<usize>,
@@ -51,7 +51,7 @@ pub struct RunLine {
 }
 
 /// A command with the places of its values.
-#[derive(Clone, Copy, Debug, PartialEq, Eq)]
+#[derive(Clone, Copy)]
 pub enum ToolLine {
     /// Says how the program is used.
     Help,
@@ -68,7 +68,7 @@ pub enum ToolLine {
 }
 
 /// Why a command line is refused.
-#[derive(Clone, Copy, Debug, PartialEq, Eq, Error)]
+#[derive(Clone, Copy, Debug, Error)]
 pub enum ToolWhy {
     #[error("no command")]
     NoCommand,
@@ -83,7 +83,7 @@ pub enum ToolWhy {
 }
 
 /// A refused command line: why, and the place of the word, from 0. Where a word is missing it is the number of words.
-#[derive(Clone, Copy, Debug, PartialEq, Eq, Error)]
+#[derive(Clone, Copy, Debug, Error)]
 #[error("{why} at word {place}")]
 pub struct ToolFault {
     pub why: ToolWhy,
@@ -91,7 +91,7 @@ pub struct ToolFault {
 }
 
 /// What the words so far said.
-#[derive(Clone, Copy, Debug, PartialEq, Eq)]
+#[derive(Clone, Copy)]
 pub struct SeenWords {
     /// The place of the program's word.
     pub program: Option<usize>,

@@ -8,7 +8,7 @@ use guest_mem::Mem;
 use tool_texts::Beside;
 
 /// A buffer: the address of its first byte, which is 0 where there is none, and its number of bytes.
-#[derive(Clone, Copy, Debug, PartialEq, Eq)]
+#[derive(Clone, Copy)]
 pub struct Buffer {
     pub begin: u64,
     pub count: u64,

@@ -19,7 +19,7 @@ use crate::stops::{Stop, push_where};
 use std::alloc::AllocError;
 
 /// What is next to an address. Numbers are bytes.
-#[derive(Clone, Copy, Debug, PartialEq, Eq)]
+#[derive(Clone, Copy)]
 pub enum Beside {
     /// It is in the first page.
     Null,
