@@ -6,11 +6,11 @@ ghost use Rattle.a64_effects.specs.Groups.{after_data};
 ghost use Rattle.a64_effects.specs.Scalar as table;
 ghost use Rattle.a64_data.specs.Groups.{is_sum};
 
-use crate::numbers::complement;
 use crate::registers::{operand, operand_sp, set_flags, width_of};
-use crate::shifts::{lsl, shifted};
-use crate::sums::add_flags;
 use a64_insn::{A64, A64Form, AddCarryOp, AddOp};
+use a64_operations::numbers::complement;
+use a64_operations::shifts::{lsl, shifted};
+use a64_operations::sums::add_flags;
 use core_regs::Core;
 use emu_bits::{Reg, U, extended};
 

@@ -10,8 +10,8 @@ ghost use Rattle.emu_bits.specs.Operations as bits;
 ghost use Rattle.a64_data.specs.Groups.{is_field};
 
 use crate::registers::{operand, width_of, write};
-use crate::shifts::extracted;
 use a64_insn::{A64, A64Form, BitfieldOp};
+use a64_operations::shifts::extracted;
 use core_regs::Core;
 use emu_bits::{Reg, U, low_bits, sign_extended};
 

@@ -6,9 +6,9 @@ ghost use Rattle.a64_effects.specs.Scalar as table;
 ghost use Rattle.emu_bits.specs.Operations as bits;
 ghost use Rattle.a64_data.specs.Groups.{is_reversal};
 
-use crate::numbers::complement;
 use crate::registers::{operand, width_of};
 use a64_insn::{A64, A64Form, OneSourceOp, RevOp};
+use a64_operations::numbers::complement;
 use core_regs::Core;
 use emu_bits::Reg;
 

@@ -6,10 +6,10 @@ ghost use Rattle.a64_effects.specs.Groups.{after_data};
 ghost use Rattle.a64_effects.specs.Scalar as table;
 ghost use Rattle.a64_data.specs.Groups.{is_conditional};
 
-use crate::numbers::{complement, difference};
 use crate::registers::{operand, width_of, write};
-use crate::sums::add_flags;
 use a64_insn::{A64, A64Form, CondCompareOp, SelectOp};
+use a64_operations::numbers::{complement, difference};
+use a64_operations::sums::add_flags;
 use core_regs::Core;
 use emu_bits::{Cond, Flags, Reg, U};
 

@@ -8,10 +8,7 @@ mod conditional;
 mod logic;
 mod moves;
 mod multiply;
-mod numbers;
 mod registers;
-mod shifts;
-mod sums;
 
 ghost use Rattle.std.specs.Prelude.{◌≡◌, true};
 ghost use Rattle.emu_model.specs.declared.trap.Effect.{Effect};

@@ -7,10 +7,10 @@ ghost use Rattle.a64_effects.specs.Scalar as table;
 ghost use Rattle.emu_bits.specs.Operations.{flags_of_result};
 ghost use Rattle.a64_data.specs.Groups.{is_logical};
 
-use crate::numbers::complement;
 use crate::registers::{operand, set_flags, width_of};
-use crate::shifts::shifted;
 use a64_insn::{A64, A64Form, LogicImmOp, LogicRegOp};
+use a64_operations::numbers::complement;
+use a64_operations::shifts::shifted;
 use core_regs::Core;
 use emu_bits::{Flags, Reg, U, bitmask};
 

@@ -6,10 +6,10 @@ ghost use Rattle.a64_effects.specs.Groups.{after_data};
 ghost use Rattle.a64_data.specs.Groups.{is_move};
 
 use crate::bitfield::replaced;
-use crate::numbers::{complement, wrapped};
 use crate::registers::write;
-use crate::shifts::lsl;
 use a64_insn::{A64, A64Form, AdrOp, MoveWideOp};
+use a64_operations::numbers::{complement, wrapped};
+use a64_operations::shifts::lsl;
 use core_regs::Core;
 use emu_bits::{Reg, U, sext};
 

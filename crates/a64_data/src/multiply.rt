@@ -7,10 +7,10 @@ ghost use Rattle.a64_effects.specs.Scalar as table;
 ghost use Rattle.emu_bits.specs.Operations as bits;
 ghost use Rattle.a64_data.specs.Groups.{is_product};
 
-use crate::numbers::{difference, product, quotient, scaled_down, wrapped};
 use crate::registers::{operand, width_of, write};
-use crate::shifts::{asr, lsl, lsr, ror};
 use a64_insn::{A64, A64Form, MulAddOp, MulHighOp, MulLongOp, TwoSourceOp};
+use a64_operations::numbers::{difference, product, quotient, scaled_down, wrapped};
+use a64_operations::shifts::{asr, lsl, lsr, ror};
 use core_regs::Core;
 use emu_bits::{Reg, sext};
 

@@ -4,7 +4,7 @@ ghost use Rattle.emu_bits.specs.Numbers as numbers;
 ghost use Rattle.emu_model.specs.State.{with_x};
 ghost use Rattle.a64_effects.specs.Scalar as scalar;
 
-use crate::numbers::low;
+use a64_operations::numbers::low;
 use core_regs::Core;
 use emu_bits::{Flags, Reg};
 

@@ -1,1 +1,3 @@
-pub mod Tried
+pub mod AtOnceRows
+pub mod Couples
+pub mod SameAccess

@@ -9,10 +9,10 @@ ghost use Rattle.a64_effects.specs.declared.transfer.Transfer.{Transfer};
 ghost use Rattle.a64_flow.specs.Ends.{done_with};
 ghost use Rattle.vec_regs.specs.Packed.{IsLowSize};
 
-use core_regs::Core;
-use emu_bits::{Reg, U};
+use core_regs::{Core, Source, Target};
+use emu_bits::U;
 use emu_model::PAGE_SIZE;
-use guest_mem::{Access, AccessLog, Kind, Mem};
+use guest_mem::{AccessLog, Kind, Mem};
 
 /// Stores 2^size bytes of a register, and answers whether it did. Else nothing is changed.
 #[inline(never)]
@@ -21,7 +21,7 @@ pub(crate) fn stored(
     mem: &mut Mem,
     log: &mut AccessLog,
     size: U<2>,
-    rt: Reg,
+    rt: Source,
     address: u64,
 ) -> bool
     requires { log.old.items ≡ [] }
@@ -49,7 +49,7 @@ pub(crate) fn loaded(
     mem: &mut Mem,
     log: &mut AccessLog,
     size: U<2>,
-    rt: Reg,
+    rt: Target,
     address: u64,
 ) -> bool
     requires { log.old.items ≡ [] }
@@ -73,11 +73,11 @@ pub(crate) fn loaded(
 
 /// Stores the low n bytes of a register.
 #[inline(always)]
-fn stored_bytes(
+pub(crate) fn stored_bytes(
     core: &Core,
     mem: &mut Mem,
     log: &mut AccessLog,
-    rt: Reg,
+    rt: Source,
     address: u64,
     n: u32,
 ) -> bool
@@ -96,7 +96,7 @@ fn stored_bytes(
     if address % PAGE_SIZE + u64::from(n) > PAGE_SIZE {
         return false;
     }
-    match mem.store(address, n, u128::from(core.x(rt))) {
+    match mem.store(address, n, u128::from(core.source(rt))) {
         Ok(()) => {
             note(log, address, n, true);
             true
@@ -107,11 +107,11 @@ fn stored_bytes(
 
 /// Loads n bytes to a register.
 #[inline(always)]
-fn loaded_bytes(
+pub(crate) fn loaded_bytes(
     core: &mut Core,
     mem: &mut Mem,
     log: &mut AccessLog,
-    rt: Reg,
+    rt: Target,
     address: u64,
     n: u32,
 ) -> bool
@@ -135,22 +135,17 @@ fn loaded_bytes(
     match mem.load(address, n, Kind::Read) {
         Ok(v) => {
             note(log, address, n, false);
-            core.set_x(rt, 64, v as u64);
+            core.set_target(rt, 64, v as u64);
             true
         }
         Err(_) => false,
     }
 }
 
-/// Makes the log one access. It is emptied first, so that the place of the access is known.
+/// Makes the log one access.
 #[inline(always)]
 fn note(log: &mut AccessLog, address: u64, n: u32, write: bool)
     ensures { log.new.items ≡ record { address = address; bytes = n; write = write } ∷ [] }
 {
-    log.clear();
-    log.push(Access {
-        address,
-        bytes: n,
-        write,
-    });
+    log.set_run(address, n, 1, write);
 }

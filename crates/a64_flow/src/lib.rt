@@ -2,6 +2,7 @@
 #![tactic(auto)]
 
 mod alignment;
+mod at_once;
 mod atomic;
 mod branches;
 mod elements;
@@ -21,6 +22,7 @@ ghost use Rattle.a64_effects.specs.Groups.{is_flow, is_load_store};
 ghost use Rattle.a64_effects.specs.Effects.{performed};
 
 use a64_insn::{A64, A64Form};
+pub use at_once::tried;
 use core_regs::{Core, Effect};
 use guest_mem::{AccessLog, Mem};
 use vec_regs::VecRegs;

@@ -15,7 +15,7 @@ use crate::fields::{access_bytes, transfer};
 use crate::general;
 use crate::singles::Single;
 use a64_effects::Transfer;
-use core_regs::Core;
+use core_regs::{Core, Source, Target};
 use emu_bits::Reg;
 use guest_mem::element_access::{load_here, store_here};
 use guest_mem::{AccessLog, Mem};
@@ -39,9 +39,9 @@ pub(crate) fn moved_general(core: &mut Core, mem: &mut Mem, log: &mut AccessLog,
         return false;
     }
     if s.opc.get() == 0 {
-        general::stored(core, mem, log, s.size, s.rt, s.address)
+        general::stored(core, mem, log, s.size, Source::of(s.rt), s.address)
     } else {
-        general::loaded(core, mem, log, s.size, s.rt, s.address)
+        general::loaded(core, mem, log, s.size, Target::of(s.rt), s.address)
     }
 }
 

@@ -1,7 +1,7 @@
 //! Moves of the first lanes of a register.
-ghost use Rattle.std.specs.Prelude.{◌≡◌, ◌≤◌, ◌<◌, ◌+◌, ◌*◌, ◌/◌, ℕ, [], None, true, false, take, get_or};
+ghost use Rattle.std.specs.Prelude.{◌≡◌, ◌≤◌, ◌<◌, ◌+◌, ◌*◌, ◌/◌, ◌%◌, ℕ, [], None, true, false, take, get_or};
 ghost use Rattle.emu_model.specs.declared.access.Kind.{Kind};
-ghost use Rattle.emu_model.specs.Access.{address, refused};
+ghost use Rattle.emu_model.specs.Access.{address, allowed, page_size, refused};
 ghost use Rattle.emu_model.specs.Lanes.{read_z, with_z};
 ghost use Rattle.emu_model.specs.Lists.{each};
 ghost use Rattle.emu_model.specs.Pages.{bytes_at, with_bytes};
@@ -22,8 +22,8 @@ fn told_bytes(bytes: &[u8]) -> &[u8]
     bytes
 }
 
-/// Loads n lanes of w bytes from an address on, and writes a register that has them, and zeros behind them, where they
-/// are in one page that may be read, and says whether it did. Else nothing is changed.
+/// Loads n lanes of w bytes from an address on, and writes a register that has them, and zeros behind them, exactly
+/// where they are in one page that may be read, and says whether it did. Else nothing is changed.
 #[inline(always)]
 pub fn load_lanes(
     vec: &mut VecRegs,
@@ -37,6 +37,8 @@ pub fn load_lanes(
     requires few { n * w ≤ vec.old.bits / 8 }
     requires lanes { n ≤ 256 }
     requires empty { log.old.items ≡ [] }
+    ensures within { base % page_size + n * w ≤ page_size → result ≡ allowed mem.old.memory Kind.Read base }
+    ensures beyond { page_size < base % page_size + n * w → result ≡ false }
     ensures allowed { result ≡ true → refused mem.old.memory base (n * w) Kind.Read ≡ None }
     ensures loaded { result ≡ true → let bytes = bytes_at mem.old.memory base (n * w) in
         vec.new ≡ with_z vec.old zt (each (vec.old.bits / 8) (λ j. get_or bytes j 0)) }
@@ -64,8 +66,8 @@ pub fn load_lanes(
     }
 }
 
-/// Stores the first n lanes of a register, of w bytes, from an address on, where they are in one page that may be
-/// written, and says whether it did. Else nothing is changed.
+/// Stores the first n lanes of a register, of w bytes, from an address on, exactly where they are in one page that may
+/// be written, and says whether it did. Else nothing is changed.
 #[inline(always)]
 pub fn store_lanes(
     vec: &VecRegs,
@@ -79,6 +81,8 @@ pub fn store_lanes(
     requires few { n * w ≤ vec.now.bits / 8 }
     requires lanes { n ≤ 256 }
     requires empty { log.old.items ≡ [] }
+    ensures within { base % page_size + n * w ≤ page_size → result ≡ allowed mem.old.memory Kind.Write base }
+    ensures beyond { page_size < base % page_size + n * w → result ≡ false }
     ensures allowed { result ≡ true → refused mem.old.memory base (n * w) Kind.Write ≡ None }
     ensures stored { result ≡ true
         → mem.new.memory ≡ with_bytes mem.old.memory base (take (n * w) (read_z vec.now zt)) }

@@ -1,6 +1,8 @@
 //! The scalar registers: x0 to x30, SP, PC, the condition flags, TPIDR_EL0 and the exclusive monitor.
 #![tactic(auto)]
 
+mod places;
+
 ghost use Rattle.std.specs.Prelude.{◌≡◌, ◌%◌, ◌^◌, ◌⊎◌};
 ghost use Rattle.emu_bits.specs.Flags.{cond_holds};
 ghost use Rattle.emu_model.specs.State.{read_x, read_x_sp, with_x, with_x_sp, with_pc, zero_core};
@@ -8,13 +10,14 @@ ghost use Rattle.emu_model.specs.SoundState.{IsSoundCore};
 
 use emu_bits::{Cond, Flags, Reg};
 pub use emu_model::{Effect, Trap, TrapKind};
+pub use places::{RegOrSp, Source, Target};
 use std::marker::Model;
 
 /// The scalar registers of a machine. Contracts see them as a record.
 #[derive(Debug, Drop)]
 pub struct Core {
-    x: [u64; 31],
-    sp: u64,
+    // x0 to x30, SP, zero, and what no register keeps
+    x: [u64; 34],
     pc: u64,
     flags: Flags,
     tpidr: u64,
@@ -22,6 +25,7 @@ pub struct Core {
 }
 
 impl Model for Core {
+    ghost use Rattle.std.specs.Prelude.{◌≡◌, get_or, take};
     ghost use Rattle.emu_model.specs.State.{Core as CoreState};
     ghost use Rattle.emu_model.specs.Codes.{coded_core};
     ghost use Rattle.emu_model.specs.SoundState.{IsSoundCore};
@@ -30,11 +34,23 @@ impl Model for Core {
 
     ghost coded = { coded_core };
 
-    ghost view = { λ a.
-        record { x = a.x; sp = a.sp; pc = a.pc; flags = a.flags; tpidr = a.tpidr; monitor = a.monitor } };
+    ghost view = { λ a. record {
+      x = take 31 a.x;
+      sp = get_or a.x 31 0;
+      pc = a.pc;
+      flags = a.flags;
+      tpidr = a.tpidr;
+      monitor = a.monitor;
+    } };
 
-    ghost invariant = { λ a. IsSoundCore
-        (record { x = a.x; sp = a.sp; pc = a.pc; flags = a.flags; tpidr = a.tpidr; monitor = a.monitor }) };
+    ghost invariant = { λ a. (get_or a.x 32 0 ≡ 0) × IsSoundCore (record {
+      x = take 31 a.x;
+      sp = get_or a.x 31 0;
+      pc = a.pc;
+      flags = a.flags;
+      tpidr = a.tpidr;
+      monitor = a.monitor;
+    }) };
 }
 
 /// A number modulo 2^width, with no mask to be made.
@@ -52,8 +68,7 @@ impl Core {
         ensures { result ≡ zero_core }
     {
         Core {
-            x: [0; 31],
-            sp: 0,
+            x: [0; 34],
             pc: 0,
             flags: Flags {
                 n: false,
@@ -72,7 +87,6 @@ impl Core {
     {
         Core {
             x: self.x,
-            sp: self.sp,
             pc: self.pc,
             flags: self.flags,
             tpidr: self.tpidr,
@@ -84,16 +98,30 @@ impl Core {
     pub fn x(&self, r: Reg) -> u64
         ensures { result ≡ read_x self.now r }
     {
-        let n = r.get() as usize;
-        if n == 31 { 0 } else { self.x[n] }
+        self.source(Source::of(r))
     }
 
     /// The 64 bits of X register `r`. Register 31 reads SP.
     pub fn x_sp(&self, r: Reg) -> u64
         ensures { result ≡ read_x_sp self.now r }
     {
-        let n = r.get() as usize;
-        if n == 31 { self.sp } else { self.x[n] }
+        self.reg_or_sp(RegOrSp::of(r))
+    }
+
+    /// The same of a source.
+    #[inline(always)]
+    pub fn source(&self, r: Source) -> u64
+        ensures { result ≡ read_x self.now r }
+    {
+        self.x[r.place()]
+    }
+
+    /// The 64 bits of a register that may be SP.
+    #[inline(always)]
+    pub fn reg_or_sp(&self, r: RegOrSp) -> u64
+        ensures { result ≡ read_x_sp self.now r }
+    {
+        self.x[r.place()]
     }
 
     /// The program counter: the address of the instruction that runs.
@@ -138,10 +166,7 @@ impl Core {
         requires { (width ≡ 32) ⊎ (width ≡ 64) }
         ensures { self.new ≡ with_x self.old r width v }
     {
-        let n = r.get() as usize;
-        if n != 31 {
-            self.x[n] = low(v, width);
-        }
+        self.set_target(Target::of(r), width, v);
     }
 
     /// Writes the low `width` bits of `v` to X register `r`, and zeros above. Register 31 is SP.
@@ -149,12 +174,25 @@ impl Core {
         requires { (width ≡ 32) ⊎ (width ≡ 64) }
         ensures { self.new ≡ with_x_sp self.old r width v }
     {
-        let n = r.get() as usize;
-        if n == 31 {
-            self.sp = low(v, width);
-        } else {
-            self.x[n] = low(v, width);
-        }
+        self.set_reg_or_sp(RegOrSp::of(r), width, v);
+    }
+
+    /// Writes the low `width` bits of `v` to a target, and zeros above.
+    #[inline(always)]
+    pub fn set_target(&mut self, r: Target, width: u32, v: u64)
+        requires { (width ≡ 32) ⊎ (width ≡ 64) }
+        ensures { self.new ≡ with_x self.old r width v }
+    {
+        self.x[r.place()] = low(v, width);
+    }
+
+    /// The same of a register that may be SP.
+    #[inline(always)]
+    pub fn set_reg_or_sp(&mut self, r: RegOrSp, width: u32, v: u64)
+        requires { (width ≡ 32) ⊎ (width ≡ 64) }
+        ensures { self.new ≡ with_x_sp self.old r width v }
+    {
+        self.x[r.place()] = low(v, width);
     }
 
     /// Writes the program counter.

@@ -1,5 +1,5 @@
 //! The command that moves the machine back.
-ghost use Rattle.std.specs.Prelude.{◌≡◌, ◌≢◌, ◌≤◌, ◌+◌, ◌++◌, ℕ, List};
+ghost use Rattle.std.specs.Prelude.{◌≡◌, ◌≢◌, ◌≤◌, ◌+◌, ◌++◌, ℕ, List, []};
 ghost use Rattle.std.specs.Prelude.{Option, None, get_or, is_some, length as len, true, false};
 ghost use Rattle.io_gate.specs.Streams.{Causes, HasCause};
 ghost use Rattle.io_gate.specs.Pieces.{PutsAll};
@@ -43,12 +43,13 @@ fn put_back<S: Sink>(machine: &Machine, sink: &mut S) -> Result<(), Failed>
 
 /// Makes the machine that of the mark of the greatest number of steps up to `target`, and drops all marks but this one
 /// and the first.
-fn restore_before(machine: &mut Machine, trail: &mut Trail, target: u64)
+pub fn restore_before(machine: &mut Machine, trail: &mut Trail, target: u64)
     requires count { len machine.old.marks ≡ 16 }
     requires saved { len machine.old.saved ≡ 16 }
     requires first { is_some (get_or machine.old.marks 0 None) ≡ true }
     requires start { get_or trail.old.steps 0 0 ≡ 0 }
-    ensures { Turns target machine.old machine.new trail.old trail.new }
+    ensures turns { Turns target machine.old machine.new trail.old trail.new }
+    ensures accesses { machine.new.accesses ≡ [] }
 {
     let nearest = nearest_mark(machine, trail, target);
     drop_marks(machine, nearest);
@@ -57,7 +58,7 @@ fn restore_before(machine: &mut Machine, trail: &mut Trail, target: u64)
 }
 
 /// Makes the machine that of the run from the start behind `target` steps, which it has counted.
-fn turn_back(machine: &mut Machine, trail: &mut Trail, k: u64, input: &[u8])
+pub fn turn_back(machine: &mut Machine, trail: &mut Trail, k: u64, input: &[u8])
     requires walks { CanWalk input.now machine.old trail.old }
     ensures does { (held errs : Option (List ℕ)) → Does (λ start. back_to start k) input.now machine.old machine.new
         trail.old trail.new held held errs errs false }

@@ -12,5 +12,9 @@ mod moves;
 mod session;
 mod trail;
 
-pub use ends::BackEnd;
+pub use back::{restore_before, turn_back};
+pub use dropped::Dropped;
+pub use ends::{BackEnd, end_of_put};
+pub use moves::{advance, is_below, move_to};
 pub use session::session_back;
+pub use trail::Trail;

@@ -49,7 +49,7 @@ fn run_to<O: Sink, E: Sink>(
 
 /// Takes steps up to the machine's end, the furthest count, or so many in all, with sinks that drop what they get; or
 /// where the machine stands at the furthest count, up to its end or so many in all, with those of the session.
-fn advance<O: Sink, E: Sink>(
+pub fn advance<O: Sink, E: Sink>(
     machine: &mut Machine,
     trail: &mut Trail,
     until: u64,
@@ -80,7 +80,7 @@ fn advance<O: Sink, E: Sink>(
 }
 
 /// Whether a machine that goes on has counted fewer steps than so many.
-fn is_below(machine: &Machine, target: u64) -> bool
+pub fn is_below(machine: &Machine, target: u64) -> bool
     ensures going { result ≡ true → has_ended machine.now ≡ false }
     ensures below { result ≡ true → machine.now.parts.steps < target }
     ensures over { result ≡ false → (has_ended machine.now ≡ true) ⊎ (target ≤ machine.now.parts.steps) }

@@ -116,3 +116,32 @@ module _ (i : Insn) (c d : Core) (v w : Vectors) (m n : Memory) (brk : Break) (s
       subst (λ (x : MachineState). HasDone (Some i) x new r) view
       (subst (λ (x : MachineState). HasDone (Some i) before x r) made
       (subst (λ (x : Progress). HasDone (Some i) before (left e) x) (sym by) (by_effect none goes_on e is)))
+
+-- a step of a machine that has other spare frames alone
+module _ (insn : Option Insn) (c d : Core) (v : Vectors) (m n : Memory) (brk : Break) (steps : ℕ) (ended : Option Ended) (k l : List Access) (failed : Bool) (marks marked : Marks) (saved : List Saved) (spare later : ℕ) (old new : MachineState) (r : Progress) where
+  abbrev left_as : Core → Memory → List Access → Marks → MachineState
+  left_as x y z w = machine_of x v y brk steps ended z failed w saved later
+
+  respared : HasDone insn (left_as c m k marks) new r → HasDone insn (machine_of c v m brk steps ended k failed marks saved spare) new r
+  respared h = record {
+    turn = h.turn;
+    kept = h.kept;
+    svc = h.svc;
+    alone = h.alone;
+    ended = h.ended;
+    counted = h.counted;
+    accesses = h.accesses;
+    marks = h.marks;
+    saved = h.saved;
+  }
+
+  pub done_later : machine_of c v m brk steps ended k failed marks saved spare ≡ old → old.accesses ≡ [] → d ≡ c → n ≡ m → l ≡ [] → marked ≡ marks
+      → HasDone insn (left_as d n l marked) new r → HasDone insn old new r
+  done_later view clear same_core same_memory none same_marks h =
+      let emptied : l ≡ k = none ∙ sym (ap (λ (s : MachineState). s.accesses) view ∙ clear) in
+      subst (λ (x : MachineState). HasDone insn x new r) view
+      (respared
+      (subst (λ (x : Marks). HasDone insn (left_as c m k x) new r) same_marks
+      (subst (λ (x : List Access). HasDone insn (left_as c m x marked) new r) emptied
+      (subst (λ (x : Memory). HasDone insn (left_as c x l marked) new r) same_memory
+      (subst (λ (x : Core). HasDone insn (left_as x n l marked) new r) same_core h)))))

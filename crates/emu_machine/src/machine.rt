@@ -111,6 +111,7 @@ impl Machine {
             core,
             vec,
             words,
+            operations,
             mut shown,
         } = registers;
         shown.clear();
@@ -121,6 +122,7 @@ impl Machine {
                 vec,
                 log: AccessLog::new(),
                 words,
+                operations,
                 brk,
                 steps: 0,
                 ended: None,

@@ -5,7 +5,7 @@ ghost use Rattle.emu_model.specs.State.{zero_core, zero_vectors};
 use core_regs::Core;
 use emu_model::Length;
 use guest_mem::AccessList;
-use insn_decode::DecodedWords;
+use insn_decode::{DecodedWords, KnownOperations};
 use std::alloc::{AllocError, Global};
 use vec_regs::VecRegs;
 
@@ -15,6 +15,7 @@ pub(crate) struct Registers {
     pub(crate) core: Box<Core>,
     pub(crate) vec: Box<VecRegs>,
     pub(crate) words: DecodedWords,
+    pub(crate) operations: KnownOperations,
     pub(crate) shown: AccessList,
 }
 
@@ -28,6 +29,7 @@ impl Registers {
             core: Box::new(alloc, Core::new())?,
             vec: Box::new(alloc, VecRegs::new(length))?,
             words: DecodedWords::new(alloc)?,
+            operations: KnownOperations::new(alloc)?,
             shown: AccessList::new(alloc)?,
         })
     }

@@ -2,7 +2,6 @@
 ghost use Rattle.std.specs.Prelude.{◌≡◌, ◌<◌, ◌+◌, ◌-◌, ◌^◌, List, [], ℕ, ⊤, Some, None, true, false, length};
 ghost use Rattle.emu_bits.specs.Fields.{field};
 ghost use Rattle.emu_model.specs.SoundState.{IsSoundBreak};
-ghost use Rattle.emu_run.specs.ByTable.{a64};
 ghost use Rattle.emu_run.specs.Step as model;
 ghost use Rattle.emu_system.specs.SystemCall.{call, quiet, went_on};
 ghost use Rattle.emu_machine.specs.Advances.{Advances, EndsBy, MatchCall, left_by_effect, progress_by};
@@ -12,12 +11,12 @@ ghost use Rattle.emu_machine.specs.Machines.{has_ended, is_at_call, is_svc, make
 
 use crate::ends::Progress;
 use crate::saved::Saved;
-use a64_insn::A64;
+use a64_flow::tried;
 use core_regs::{Core, Effect};
 use emu_model::{Break, Ended, Kind, Trap, TrapKind};
 use guest_contexts::{Context, Turn, begin_next};
 use guest_mem::{AccessLog, Mem};
-use insn_decode::{DecodedWords, decode_a64_word, may_be_sve};
+use insn_decode::{DecodedWords, KnownOperations, decode_a64_word, may_be_sve};
 use insn_exec::{perform_a64, perform_sve};
 use std::marker::Model;
 use vec_regs::VecRegs;
@@ -33,6 +32,7 @@ pub(crate) struct Running {
     pub(crate) log: AccessLog,
     // no part of what contracts see: a step does the same whatever it has
     pub(crate) words: DecodedWords,
+    pub(crate) operations: KnownOperations,
     pub(crate) brk: Break,
     pub(crate) steps: u64,
     pub(crate) ended: Option<Ended>,
@@ -156,41 +156,77 @@ impl Running {
         if may_be_sve(word) {
             return self.vector(word);
         }
-        match decode_a64_word::<Running>(word) {
-            None => self.trap(TrapKind::Undefined, pc),
-            Some(insn) => self.scalar(&insn),
-        }
+        self.by_word(word)
     }
 
-    /// Does an A64 instruction that makes no call. At a call nothing is changed, but that nothing is said of spare
-    /// frames.
+    /// Does the instruction of a word that isn't in a row of SVE: by its operation where that is done at once, else by
+    /// its form.
     #[inline(always)]
-    fn scalar(&mut self, insn: &A64) -> Progress
+    fn by_word(&mut self, word: u32) -> Progress
         requires going { has_ended self.old ≡ false }
         requires room { self.old.parts.steps < 2 ^ 64 - 1 }
         requires clear { self.old.accesses ≡ [] }
-        ensures turn { MatchCall result ((input : List ℕ)
-            → model.executed self.old.parts input (a64 (Some insn.now)) ≡ call self.old.parts input)
-            ((input : List ℕ)
-            → model.executed self.old.parts input (a64 (Some insn.now)) ≡ quiet self.new.parts input) }
+        requires word { ¬ (field word 27 2 ≡ 0) }
+        ensures turn { MatchCall result
+            ((input : List ℕ) → model.executed self.old.parts input (model.decode word) ≡ call self.old.parts input)
+            ((input : List ℕ) → model.executed self.old.parts input (model.decode word) ≡ quiet self.new.parts input) }
         ensures kept { MatchCall result (self.new ≡ record self.old { spare = self.new.spare })
             (self.new.failed ≡ false) }
-        ensures svc { result ≡ Progress.AtCall → is_svc (a64 (Some insn.now)) ≡ true }
-        ensures alone { MatchCall result ⊤ (is_svc (a64 (Some insn.now)) ≡ false) }
+        ensures svc { result ≡ Progress.AtCall → is_svc (model.decode word) ≡ true }
+        ensures alone { MatchCall result ⊤ (is_svc (model.decode word) ≡ false) }
         ensures ended { EndsBy result self.new.parts }
         ensures counted { result ≡ Progress.GoesOn → self.new.parts.steps ≡ self.old.parts.steps + 1 }
-        ensures accesses { self.new.accesses ≡ model.executed_accesses self.old.parts (a64 (Some insn.now)) }
+        ensures accesses { self.new.accesses ≡ model.executed_accesses self.old.parts (model.decode word) }
         ensures marks { self.new.marks ≡ self.old.marks }
         ensures saved { self.new.saved ≡ self.old.saved }
     {
-        let effect = perform_a64(
+        match tried(
             &mut *self.core,
-            &mut *self.vec,
             &mut self.memory,
             &mut self.log,
-            insn,
-        );
-        self.leave_insn(effect)
+            self.operations.find(word),
+        ) {
+            Some(effect) => self.leave_insn(effect),
+            None => self.by_form(word),
+        }
+    }
+
+    /// The same by its form. It isn't inlined, so that no form of A64 is in the loop.
+    #[inline(never)]
+    fn by_form(&mut self, word: u32) -> Progress
+        requires going { has_ended self.old ≡ false }
+        requires room { self.old.parts.steps < 2 ^ 64 - 1 }
+        requires clear { self.old.accesses ≡ [] }
+        requires word { ¬ (field word 27 2 ≡ 0) }
+        ensures turn { MatchCall result
+            ((input : List ℕ) → model.executed self.old.parts input (model.decode word) ≡ call self.old.parts input)
+            ((input : List ℕ) → model.executed self.old.parts input (model.decode word) ≡ quiet self.new.parts input) }
+        ensures kept { MatchCall result (self.new ≡ record self.old { spare = self.new.spare })
+            (self.new.failed ≡ false) }
+        ensures svc { result ≡ Progress.AtCall → is_svc (model.decode word) ≡ true }
+        ensures alone { MatchCall result ⊤ (is_svc (model.decode word) ≡ false) }
+        ensures ended { EndsBy result self.new.parts }
+        ensures counted { result ≡ Progress.GoesOn → self.new.parts.steps ≡ self.old.parts.steps + 1 }
+        ensures accesses { self.new.accesses ≡ model.executed_accesses self.old.parts (model.decode word) }
+        ensures marks { self.new.marks ≡ self.old.marks }
+        ensures saved { self.new.saved ≡ self.old.saved }
+    {
+        match decode_a64_word::<Running>(word) {
+            None => {
+                let pc = self.core.pc();
+                self.trap(TrapKind::Undefined, pc)
+            }
+            Some(insn) => {
+                let effect = perform_a64(
+                    &mut *self.core,
+                    &mut *self.vec,
+                    &mut self.memory,
+                    &mut self.log,
+                    &insn,
+                );
+                self.leave_insn(effect)
+            }
+        }
     }
 
     /// Does the instruction of a word that may be in a row of SVE. It isn't inlined, so that no form of SVE is in the

@@ -88,8 +88,23 @@ impl AccessLog {
         self.len = len + 1;
     }
 
+    /// Becomes so many accesses of n bytes each, one behind the other.
+    #[inline(always)]
+    pub fn set_run(&mut self, base: u64, n: u32, count: u32, write: bool)
+        requires { count ≤ 1024 }
+        ensures items { self.new.items ≡ each count
+            (λ i. record { address = address (base + i * n); bytes = n; write = write }) }
+    {
+        let _ = &self.cells;
+        self.base = base;
+        self.bytes = n;
+        self.write = write;
+        self.count = count;
+        self.len = 0;
+    }
+
     /// Appends so many accesses of n bytes each, one behind the other. There must be room.
-    #[inline]
+    #[inline(always)]
     pub fn push_run(&mut self, base: u64, n: u32, count: u32, write: bool)
         requires { array_vec_len self.old + count ≤ 1024 }
         ensures items { self.new.items ≡ self.old.items ++ each count
@@ -223,6 +238,7 @@ fn put_all(accesses: &mut Vec<Access>, from: &[Access])
 }
 
 /// Makes all of these accesses of n bytes each, one behind the other.
+#[inline(never)]
 fn fill(cells: &mut [Access], base: u64, n: u32, write: bool)
     ensures { cells.new ≡ each (length cells.old)
         (λ i. record { address = address (base + i * n); bytes = n; write = write }) }

@@ -1,6 +1,7 @@
 //! The mapped pages, and the calls that map, find and change them.
 ghost use Rattle.std.specs.Prelude.{
   ◌≡◌,
+  true,
   ◌≤◌,
   ◌<◌,
   ◌+◌,
@@ -250,6 +251,7 @@ impl Pages {
 
     /// `count` bytes of a page that is mapped, from place `at` on, for writing, and sets `spare` to the number of
     /// frames that are spare then.
+    #[inline(always)]
     pub fn part_mut(&mut self, page: u64, at: usize, count: usize, spare: &mut u32) -> &mut [u8]
         requires mapped { IsTrue (map.contains_key self.old.memory.pages page) }
         requires within { at + count ≤ page_size }
@@ -263,6 +265,14 @@ impl Pages {
         }
         let i = place_to_write(&mut self.list, &mut self.cache, page);
         self.list.part_mut(i, at, count, spare)
+    }
+
+    /// Whether a page is at hand to be written, as a page that was written lately mostly is. It may be written then.
+    #[inline(always)]
+    pub fn is_at_hand(&self, page: u64) -> bool
+        ensures { IsTrue result → page_gives (map.get self.now.memory.pages page) Kind.Write ≡ true }
+    {
+        self.list.is_written(page)
     }
 
     /// Whether a page may be written.

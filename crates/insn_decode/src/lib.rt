@@ -6,6 +6,7 @@
 #![tactic(auto)]
 
 mod known;
+mod remembered_operations;
 mod remembered_words;
 
 ghost use Rattle.std.specs.Prelude.{◌≡◌, ◌↔◌, IfSome, IsTrue, Some};
@@ -19,6 +20,7 @@ use a64_insn::A64;
 use a64_rows::{decode_a64_at, encode_a64};
 use emu_bits::bits;
 pub use emu_run::Insn;
+pub use remembered_operations::KnownOperations;
 pub use remembered_words::DecodedWords;
 use sve_insn::Sve;
 use sve_rows::{decode_sve_here, encode_sve};

@@ -1,2 +1,3 @@
 pub mod InGroup
 mod AtOnce
+mod TakenAtOnce

@@ -1,14 +1,37 @@
 //! Rows whose elements fill the lanes of one register, done at once where the active lanes come before all others and
 //! are in one page.
-ghost use Rattle.std.specs.Prelude.{◌≡◌, ◌≤◌, ◌<◌, ◌/◌, ◌*◌, ◌+◌, ◌||◌, List, [], IfSome, true, false, nat_eq};
+ghost use Rattle.std.specs.Prelude.{
+  ℕ,
+  ◌≡◌,
+  ◌≢◌,
+  ◌≤◌,
+  ◌<◌,
+  ◌/◌,
+  ◌%◌,
+  ◌*◌,
+  ◌+◌,
+  ◌^◌,
+  ◌||◌,
+  List,
+  [],
+  IfSome,
+  None,
+  true,
+  false,
+  nat_eq,
+};
+ghost use Rattle.emu_model.specs.declared.access.Kind.{Kind};
 ghost use Rattle.emu_model.specs.Elements.{Element};
 ghost use Rattle.emu_model.specs.LaneSizes.{IsLaneSize};
 ghost use Rattle.emu_model.specs.declared.trap.Effect.{Effect};
 ghost use Rattle.sve_effects.specs.VectorLoadStore.{is_misaligned};
 ghost use Rattle.sve_effects.specs.Effects.{is_contiguous_load, is_contiguous_store};
 ghost use Rattle.sve_effects.specs.Rows.{performed};
-ghost use Rattle.contiguous_runs.specs.Leading.{AreLeading};
+ghost use Rattle.contiguous_runs.specs.Leading.{AreLeading, HasGap};
 ghost use Rattle.element_loops.specs.Planned.{load_by, store_by};
+ghost use Rattle.sve_effects.specs.LaneLoop.{lane_bits};
+ghost use Rattle.sve_effects.specs.VectorElements.{dtype_bits, dtype_bytes};
+ghost use Rattle.sve_loads.specs.AtOnce.{IsAtOnce};
 ghost use Rattle.sve_loads.specs.Plans as table;
 ghost use Rattle.sve_loads.specs.Plans.{dtype_shape, filled_shape, size_shape};
 
@@ -28,6 +51,7 @@ fn filled_by_dtype(dtype: u32) -> Option<u32>
     requires { dtype < 16 }
     ensures size { IfSome result (λ e. IsLaneSize e) }
     ensures shape { IfSome result (λ e. dtype_shape dtype ≡ filled_shape e) }
+    ensures other { result ≡ None → dtype_bits dtype ≢ 8 * dtype_bytes dtype }
 {
     match dtype {
         0 => Some(8),
@@ -52,6 +76,7 @@ fn filled_by(size: U<2>) -> u32
 fn filled_by_size(size: U<2>, msz: U<2>) -> Option<u32>
     ensures size { IfSome result (λ e. IsLaneSize e) }
     ensures shape { IfSome result (λ e. size_shape size msz 1 ≡ filled_shape e) }
+    ensures other { result ≡ None → lane_bits size ≢ 8 * 2 ^ msz }
 {
     if size.get() == msz.get() {
         return Some(filled_by(size));
@@ -65,6 +90,7 @@ fn leading(vec: &VecRegs, pg: PredLow, e: u32) -> Option<u32>
     requires { IsLaneSize e }
     ensures few { IfSome result (λ n. n ≤ vec.now.bits / e) }
     ensures leading { IfSome result (λ n. AreLeading n e pg vec.now) }
+    ensures gap { result ≡ None → HasGap e pg vec.now }
 {
     leading_lanes(vec, pg.register(), e)
 }
@@ -72,7 +98,9 @@ fn leading(vec: &VecRegs, pg: PredLow, e: u32) -> Option<u32>
 /// Whether a base register isn't SP, or SP is a multiple of 16.
 #[inline(always)]
 fn is_aligned(core: &Core, rn: Reg) -> bool
-    ensures { result ≡ true → (es : List Element) → is_misaligned (nat_eq rn 31) es core.now ≡ false }
+    ensures aligned { result ≡ true → (es : List Element) → is_misaligned (nat_eq rn 31) es core.now ≡ false }
+    ensures not { result ≡ false → nat_eq rn 31 ≡ true }
+    ensures sp { result ≡ false → core.now.sp % 16 ≢ 0 }
 {
     if is_sp(rn) {
         core.x_sp(Reg::at(31, 0)) % 16 == 0
@@ -108,6 +136,8 @@ fn load_first(
           accesses = log.new.items;
           effect = Effect.Next;
         } }
+    ensures at_once { (lanes start : ℕ) → let p = table.consecutive_plan (filled_shape e) zt pg rn base vec.old in
+        IsAtOnce lanes start Kind.Read p core.now vec.old mem.old.memory → result ≡ true }
     ensures kept { result ≡ false → vec.new ≡ vec.old }
     ensures unlogged { result ≡ false → log.new ≡ log.old }
     ensures memory { mem.new ≡ mem.old }
@@ -143,6 +173,8 @@ fn load_filled_imm(
           accesses = log.new.items;
           effect = Effect.Next;
         } }
+    ensures at_once { (n base : ℕ) → let p = table.imm_plan (filled_shape e) zt pg rn imm4 core.now vec.old in
+        IsAtOnce n base Kind.Read p core.now vec.old mem.old.memory → result ≡ true }
     ensures kept { result ≡ false → vec.new ≡ vec.old }
     ensures unlogged { result ≡ false → log.new ≡ log.old }
     ensures memory { mem.new ≡ mem.old }
@@ -178,6 +210,8 @@ fn load_imm(
           accesses = log.new.items;
           effect = Effect.Next;
         } }
+    ensures at_once { (n base : ℕ) → let p = table.imm_plan (dtype_shape dtype) zt pg rn imm4 core.now vec.old in
+        IsAtOnce n base Kind.Read p core.now vec.old mem.old.memory → result ≡ true }
     ensures kept { result ≡ false → vec.new ≡ vec.old }
     ensures unlogged { result ≡ false → log.new ≡ log.old }
     ensures memory { mem.new ≡ mem.old }
@@ -210,6 +244,8 @@ fn load_nt_imm(
           accesses = log.new.items;
           effect = Effect.Next;
         } }
+    ensures at_once { (n base : ℕ) → let p = table.imm_plan (size_shape msz msz 1) zt pg rn imm4 core.now vec.old in
+        IsAtOnce n base Kind.Read p core.now vec.old mem.old.memory → result ≡ true }
     ensures kept { result ≡ false → vec.new ≡ vec.old }
     ensures unlogged { result ≡ false → log.new ≡ log.old }
     ensures memory { mem.new ≡ mem.old }
@@ -240,6 +276,8 @@ fn load_filled_reg(
           accesses = log.new.items;
           effect = Effect.Next;
         } }
+    ensures at_once { (n base : ℕ) → let p = table.reg_plan (filled_shape e) zt pg rn rm core.now vec.old in
+        IsAtOnce n base Kind.Read p core.now vec.old mem.old.memory → result ≡ true }
     ensures kept { result ≡ false → vec.new ≡ vec.old }
     ensures unlogged { result ≡ false → log.new ≡ log.old }
     ensures memory { mem.new ≡ mem.old }
@@ -275,6 +313,8 @@ fn load_reg(
           accesses = log.new.items;
           effect = Effect.Next;
         } }
+    ensures at_once { (n base : ℕ) → let p = table.reg_plan (dtype_shape dtype) zt pg rn rm core.now vec.old in
+        IsAtOnce n base Kind.Read p core.now vec.old mem.old.memory → result ≡ true }
     ensures kept { result ≡ false → vec.new ≡ vec.old }
     ensures unlogged { result ≡ false → log.new ≡ log.old }
     ensures memory { mem.new ≡ mem.old }
@@ -307,6 +347,8 @@ fn load_nt_reg(
           accesses = log.new.items;
           effect = Effect.Next;
         } }
+    ensures at_once { (n base : ℕ) → let p = table.reg_plan (size_shape msz msz 1) zt pg rn rm core.now vec.old in
+        IsAtOnce n base Kind.Read p core.now vec.old mem.old.memory → result ≡ true }
     ensures kept { result ≡ false → vec.new ≡ vec.old }
     ensures unlogged { result ≡ false → log.new ≡ log.old }
     ensures memory { mem.new ≡ mem.old }
@@ -335,6 +377,8 @@ fn load_z(
           accesses = log.new.items;
           effect = Effect.Next;
         } }
+    ensures at_once { (n base : ℕ) → let p = table.z_plan imm9h imm9l rn zt core.now vec.old in
+        IsAtOnce n base Kind.Read p core.now vec.old mem.old.memory → result ≡ true }
     ensures kept { result ≡ false → vec.new ≡ vec.old }
     ensures unlogged { result ≡ false → log.new ≡ log.old }
     ensures memory { mem.new ≡ mem.old }
@@ -375,6 +419,8 @@ fn store_first(
           accesses = log.new.items;
           effect = Effect.Next;
         } }
+    ensures at_once { (lanes start : ℕ) → let p = table.consecutive_plan (filled_shape e) zt pg rn base vec.now in
+        IsAtOnce lanes start Kind.Write p core.now vec.now mem.old.memory → result ≡ true }
     ensures kept { result ≡ false → mem.new.memory ≡ mem.old.memory }
     ensures unlogged { result ≡ false → log.new ≡ log.old }
     ensures marks { mem.new.marks ≡ mem.old.marks }
@@ -411,6 +457,8 @@ fn store_filled_imm(
           accesses = log.new.items;
           effect = Effect.Next;
         } }
+    ensures at_once { (n base : ℕ) → let p = table.imm_plan (filled_shape e) zt pg rn imm4 core.now vec.now in
+        IsAtOnce n base Kind.Write p core.now vec.now mem.old.memory → result ≡ true }
     ensures kept { result ≡ false → mem.new.memory ≡ mem.old.memory }
     ensures unlogged { result ≡ false → log.new ≡ log.old }
     ensures marks { mem.new.marks ≡ mem.old.marks }
@@ -447,6 +495,8 @@ fn store_imm(
           accesses = log.new.items;
           effect = Effect.Next;
         } }
+    ensures at_once { (n base : ℕ) → let p = table.imm_plan (size_shape size msz 1) zt pg rn imm4 core.now vec.now in
+        IsAtOnce n base Kind.Write p core.now vec.now mem.old.memory → result ≡ true }
     ensures kept { result ≡ false → mem.new.memory ≡ mem.old.memory }
     ensures unlogged { result ≡ false → log.new ≡ log.old }
     ensures marks { mem.new.marks ≡ mem.old.marks }
@@ -479,6 +529,8 @@ fn store_nt_imm(
           accesses = log.new.items;
           effect = Effect.Next;
         } }
+    ensures at_once { (n base : ℕ) → let p = table.imm_plan (size_shape msz msz 1) zt pg rn imm4 core.now vec.now in
+        IsAtOnce n base Kind.Write p core.now vec.now mem.old.memory → result ≡ true }
     ensures kept { result ≡ false → mem.new.memory ≡ mem.old.memory }
     ensures unlogged { result ≡ false → log.new ≡ log.old }
     ensures marks { mem.new.marks ≡ mem.old.marks }
@@ -509,6 +561,8 @@ fn store_filled_reg(
           accesses = log.new.items;
           effect = Effect.Next;
         } }
+    ensures at_once { (n base : ℕ) → let p = table.reg_plan (filled_shape e) zt pg rn rm core.now vec.now in
+        IsAtOnce n base Kind.Write p core.now vec.now mem.old.memory → result ≡ true }
     ensures kept { result ≡ false → mem.new.memory ≡ mem.old.memory }
     ensures unlogged { result ≡ false → log.new ≡ log.old }
     ensures marks { mem.new.marks ≡ mem.old.marks }
@@ -545,6 +599,8 @@ fn store_reg(
           accesses = log.new.items;
           effect = Effect.Next;
         } }
+    ensures at_once { (n base : ℕ) → let p = table.reg_plan (size_shape size msz 1) zt pg rn rm core.now vec.now in
+        IsAtOnce n base Kind.Write p core.now vec.now mem.old.memory → result ≡ true }
     ensures kept { result ≡ false → mem.new.memory ≡ mem.old.memory }
     ensures unlogged { result ≡ false → log.new ≡ log.old }
     ensures marks { mem.new.marks ≡ mem.old.marks }
@@ -577,6 +633,8 @@ fn store_nt_reg(
           accesses = log.new.items;
           effect = Effect.Next;
         } }
+    ensures at_once { (n base : ℕ) → let p = table.reg_plan (size_shape msz msz 1) zt pg rn rm core.now vec.now in
+        IsAtOnce n base Kind.Write p core.now vec.now mem.old.memory → result ≡ true }
     ensures kept { result ≡ false → mem.new.memory ≡ mem.old.memory }
     ensures unlogged { result ≡ false → log.new ≡ log.old }
     ensures marks { mem.new.marks ≡ mem.old.marks }
@@ -605,6 +663,8 @@ fn store_z(
           accesses = log.new.items;
           effect = Effect.Next;
         } }
+    ensures at_once { (n base : ℕ) → let p = table.z_plan imm9h imm9l rn zt core.now vec.now in
+        IsAtOnce n base Kind.Write p core.now vec.now mem.old.memory → result ≡ true }
     ensures kept { result ≡ false → mem.new.memory ≡ mem.old.memory }
     ensures unlogged { result ≡ false → log.new ≡ log.old }
     ensures marks { mem.new.marks ≡ mem.old.marks }
@@ -619,7 +679,8 @@ fn store_z(
     store_lanes(vec, mem, log, base, 1, count, zt)
 }
 
-/// Does a load or a store at once, where that is so, and says whether it did. Else nothing is changed.
+/// Does a load or a store at once where its elements fill the first lanes of a register, which alone are active, and are
+/// in one page that has the right; and says whether it did. Else nothing is changed.
 #[rattlefmt::skip]
 #[inline(always)]
 pub(crate) fn perform(core: &Core, vec: &mut VecRegs, mem: &mut Mem, log: &mut AccessLog, i: &Sve) -> bool
@@ -632,6 +693,10 @@ pub(crate) fn perform(core: &Core, vec: &mut VecRegs, mem: &mut Mem, log: &mut A
       accesses = log.new.items;
       effect = Effect.Next;
     } }
+    ensures loads { (n base : ℕ) → is_contiguous_load i.now ≡ true → let p = table.load_plan i.now core.now vec.old in
+        IsAtOnce n base Kind.Read p core.now vec.old mem.old.memory → result ≡ true }
+    ensures stores { (n base : ℕ) → is_contiguous_store i.now ≡ true → let p = table.store_plan i.now core.now vec.old in
+        IsAtOnce n base Kind.Write p core.now vec.old mem.old.memory → result ≡ true }
     ensures kept { result ≡ false → vec.new ≡ vec.old }
     ensures unlogged { result ≡ false → log.new ≡ log.old }
     ensures memory { result ≡ false → mem.new.memory ≡ mem.old.memory }
@@ -648,6 +713,15 @@ pub(crate) fn perform(core: &Core, vec: &mut VecRegs, mem: &mut Mem, log: &mut A
         SveForm::StoreNtImm { msz, imm4, pg, rn, zt } => store_nt_imm(core, vec, mem, log, msz, imm4, pg, rn, zt),
         SveForm::StoreNtReg { msz, rm, pg, rn, zt } => store_nt_reg(core, vec, mem, log, msz, rm, pg, rn, zt),
         SveForm::StoreZ { imm9h, imm9l, rn, zt } => store_z(core, vec, mem, log, imm9h, imm9l, rn, zt),
-        _ => false,
+        SveForm::LoadQuadImm { .. }
+        | SveForm::LoadQuadReg { .. }
+        | SveForm::LoadManyImm { .. }
+        | SveForm::LoadManyReg { .. }
+        | SveForm::LoadOne { .. }
+        | SveForm::LoadP { .. }
+        | SveForm::StoreManyImm { .. }
+        | SveForm::StoreManyReg { .. }
+        | SveForm::StoreP { .. } => false,
+        _ => unreachable!(),
     }
 }

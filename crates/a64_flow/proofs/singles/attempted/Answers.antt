@@ -1,7 +1,7 @@
 use Rattle.std.proofs.Common.{sym, ap, ◌∙◌}
 use Rattle.a64_insn.specs.declared.form.A64Form.{A64Form}
 use Rattle.a64_effects.specs.Groups.{load_store}
-use Rattle.a64_flow.proofs.Tried.{tried_by}
+use Rattle.a64_flow.proofs.SameAccess.{tried_by}
 use Rattle.a64_flow.proofs.singles.attempted.Goals as goal
 
 pub returns-in-LsUnsigned-clause-tried : goal.returns-in-LsUnsigned-clause-tried

@@ -18,8 +18,8 @@ restore-requires c =
       few = two_left c.drop_marks.new.machine.marks k d.dropped;
     }
 
-pub returns : goal.returns
-returns c = λ start input course w within.
+pub returns-clause-turns : goal.returns-clause-turns
+returns-clause-turns c = λ start input course w within.
     let d = c.drop_marks.ensures in
     let k = c.nearest_mark-nearest.result in
     let set = ap (λ o. is_some o) d.other ∙ c.nearest_mark-nearest.ensures.set in

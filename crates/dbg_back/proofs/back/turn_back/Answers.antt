@@ -17,7 +17,7 @@ move_to-requires c =
     let same = ap (λ (p : Parts). p.steps) w.here.parts in
     let steps = c.steps.ensures in
     let sub = c.saturating_sub-target.ensures in
-    let t = c.restore_before.ensures c.requires.walks.start c.args.input.now c.requires.walks.course w (omega (arith, same, steps, sub)) in
+    let t = c.restore_before.ensures.turns c.requires.walks.start c.args.input.now c.requires.walks.course w (omega (arith, same, steps, sub)) in
     record { walks = record { start = c.requires.walks.start; course = _; walk = t.walk } }
 
 pub returns : goal.returns
@@ -29,7 +29,7 @@ returns c = record {
         let sub = c.saturating_sub-target.ensures in
         let target = c.saturating_sub-target.result in
         let within : target ≤ course.state.parts.steps = omega (arith, same, steps, sub) in
-        let t = c.restore_before.ensures start c.args.input.now course w within in
+        let t = c.restore_before.ensures.turns start c.args.input.now course w within in
         let is : target ≡ course.state.parts.steps - c.args.k = omega (arith, same, steps, sub) in
         let below = w.below in
         let fine = dropped_fine c.move_to.result c.move_to.ensures.write_cause c.move_to.ensures.errors_cause in

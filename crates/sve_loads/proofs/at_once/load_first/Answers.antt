@@ -16,5 +16,5 @@ returns-clause-loaded c = λ is.
     active_loaded c.args.base c.args.pg c.args.n c.args.zt c.args.rn c.args.e c.args.vec.now c.requires.size c.length-length.ensures.length c.requires.few
     c.requires.leading (omega (arith, c.get-number.ensures.small, c.get-number.ensures.value))
     c.args.core.now c.args.mem.now.memory c.load_lanes.new.vec c.load_lanes.new.log.items
-    (c.is_aligned.ensures c.if-not-is_aligned.false) (c.load_lanes.ensures.allowed is) (c.load_lanes.ensures.bytes is) (c.load_lanes.ensures.loaded is) (c.load_lanes.ensures.logged is)
+    (c.is_aligned.ensures.aligned c.if-not-is_aligned.false) (c.load_lanes.ensures.allowed is) (c.load_lanes.ensures.bytes is) (c.load_lanes.ensures.loaded is) (c.load_lanes.ensures.logged is)
     ∙ ap (λ (x : MarkedMemory). record { core = c.args.core.now; vectors = c.load_lanes.new.vec; memory = x.memory; accesses = c.load_lanes.new.log.items; effect = Next }) (sym c.load_lanes.ensures.memory)

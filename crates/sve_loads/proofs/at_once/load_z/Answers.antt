@@ -13,5 +13,5 @@ returns-clause-loaded c = λ is.
     (omega (arith, c.get-number.ensures.small, c.get-number.ensures.value)) count
     (c.near_whole-base.ensures ∙ ap (λ n. base_and_count c.args.core.now c.args.rn (signed (c.args.imm9h * 8 + c.args.imm9l) 9) n) count)
     c.args.core.now c.args.mem.now.memory c.load_lanes.new.vec c.load_lanes.new.log.items
-    (c.is_aligned.ensures c.if-not-is_aligned.false) (c.load_lanes.ensures.allowed is) (c.load_lanes.ensures.bytes is) (c.load_lanes.ensures.loaded is) (c.load_lanes.ensures.logged is)
+    (c.is_aligned.ensures.aligned c.if-not-is_aligned.false) (c.load_lanes.ensures.allowed is) (c.load_lanes.ensures.bytes is) (c.load_lanes.ensures.loaded is) (c.load_lanes.ensures.logged is)
     ∙ ap (λ (x : MarkedMemory). record { core = c.args.core.now; vectors = c.load_lanes.new.vec; memory = x.memory; accesses = c.load_lanes.new.log.items; effect = Next }) (sym c.load_lanes.ensures.memory)

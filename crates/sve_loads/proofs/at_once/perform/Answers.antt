@@ -1,4 +1,8 @@
-use Rattle.std.proofs.Common.{refl, sym, ◌∙◌}
+use Rattle.std.proofs.Common.{refl, sym, subst, ◌∙◌}
+use Rattle.emu_model.specs.declared.access.Kind.TheVariants.{Read, Write}
+use Rattle.sve_insn.specs.declared.form.SveForm.{SveForm}
+use Rattle.sve_loads.specs.AtOnce.{IsAtOnce}
+use Rattle.sve_loads.specs.Plans.{load_plan, store_plan}
 use Rattle.sve_loads.proofs.InGroup.{load_row, store_row}
 use Rattle.sve_loads.proofs.at_once.perform.Goals as goal
 
@@ -31,3 +35,11 @@ returns-in-StoreNtReg-clause-done c = λ is. store_row _ _ c.args.core.now c.arg
 
 pub returns-in-StoreZ-clause-done : goal.returns-in-StoreZ-clause-done
 returns-in-StoreZ-clause-done c = λ is. store_row _ _ c.args.core.now c.args.vec.now c.args.mem.now.memory _ refl (c.store_z.ensures.stored is) (sym c.in-StoreZ.is ∙ c.form.ensures.form)
+
+pub returns-in-LoadZ-clause-loads : goal.returns-in-LoadZ-clause-loads
+returns-in-LoadZ-clause-loads c = λ n base own once.
+    c.load_z.ensures.at_once n base (subst (λ (f : SveForm). IsAtOnce n base Read (load_plan f c.args.core.now c.args.vec.now) c.args.core.now c.args.vec.now c.args.mem.now.memory) (sym c.form.ensures.form ∙ c.in-LoadZ.is) once)
+
+pub returns-in-StoreZ-clause-stores : goal.returns-in-StoreZ-clause-stores
+returns-in-StoreZ-clause-stores c = λ n base own once.
+    c.store_z.ensures.at_once n base (subst (λ (f : SveForm). IsAtOnce n base Write (store_plan f c.args.core.now c.args.vec.now) c.args.core.now c.args.vec.now c.args.mem.now.memory) (sym c.form.ensures.form ∙ c.in-StoreZ.is) once)

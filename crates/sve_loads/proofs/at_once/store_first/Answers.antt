@@ -14,4 +14,4 @@ returns-clause-stored c = λ is.
     active_stored c.args.base c.args.pg c.args.n c.args.zt c.args.rn c.args.e c.args.vec.now c.requires.size c.length-length.ensures.length c.requires.few
     c.requires.leading (omega (arith, c.get-number.ensures.small, c.get-number.ensures.value))
     c.args.core.now c.args.mem.now.memory c.store_lanes.new.mem.memory c.z_words-words.result.now c.store_lanes.new.log.items
-    (c.is_aligned.ensures c.if-not-is_aligned.false) c.ranges.base.fits (c.store_lanes.ensures.allowed is) c.z_words-words.ensures.words (c.store_lanes.ensures.stored is) (c.store_lanes.ensures.logged is)
+    (c.is_aligned.ensures.aligned c.if-not-is_aligned.false) c.ranges.base.fits (c.store_lanes.ensures.allowed is) c.z_words-words.ensures.words (c.store_lanes.ensures.stored is) (c.store_lanes.ensures.logged is)

@@ -11,4 +11,4 @@ returns-clause-stored c = λ is.
     (omega (arith, c.get-number.ensures.small, c.get-number.ensures.value)) count
     (c.near_whole-base.ensures ∙ ap (λ n. base_and_count c.args.core.now c.args.rn (signed (c.args.imm9h * 8 + c.args.imm9l) 9) n) count)
     c.args.core.now c.args.mem.now.memory c.store_lanes.new.mem.memory c.z_words-words.result.now c.store_lanes.new.log.items
-    (c.is_aligned.ensures c.if-not-is_aligned.false) c.near_whole-base.type_inv (c.store_lanes.ensures.allowed is) c.z_words-words.ensures.words (c.store_lanes.ensures.stored is) (c.store_lanes.ensures.logged is)
+    (c.is_aligned.ensures.aligned c.if-not-is_aligned.false) c.near_whole-base.type_inv (c.store_lanes.ensures.allowed is) c.z_words-words.ensures.words (c.store_lanes.ensures.stored is) (c.store_lanes.ensures.logged is)

@@ -5,7 +5,7 @@ use Rattle.emu_run.specs.Step.{accesses, step}
 use Rattle.emu_machine.specs.Accesses.{run_accesses}
 use Rattle.emu_machine.specs.declared.ends.StepEnd.TheVariants.{Going, ReadFault, WriteFault, ErrorsFault}
 use Rattle.emu_machine.specs.Ends.{IsKept, is_undone, is_unput, is_broken_off, run_end_of, step_end}
-use Rattle.emu_machine.specs.Machines.{MachineState, MakesWrite}
+use Rattle.emu_machine.specs.Machines.{MakesWrite}
 use Rattle.emu_machine.proofs.Logs.{Logs, logs_start, logs_on, logs_end, logs_as, logs_spent}
 use Rattle.emu_machine.proofs.Stands.{stands_start, stands_on, stands_there, kept_there}
 use Rattle.emu_machine.proofs.Composed.{leads_start}

@@ -1,19 +1,17 @@
-use Rattle.std.proofs.Common.{◌≡◌, ℕ, ◌%◌, Some, None, Ok, Err, refl, ap, sym, ◌∙◌}
+use Rattle.std.proofs.Common.{◌≡◌, ℕ, ◌%◌, Ok, Err, refl, ap, sym, ◌∙◌}
 use Rattle.emu_model.specs.Access.{refused, value}
 use Rattle.emu_model.specs.Marks.{MarkedMemory}
 use Rattle.emu_model.specs.LoadsAndStores.{done_unless}
 use Rattle.emu_model.specs.declared.access.Kind.TheVariants.{Fetch}
-use Rattle.emu_model.specs.declared.trap.TrapKind.TheVariants.{PcAlign, Undefined, Fetch as TrapFetch}
+use Rattle.emu_model.specs.declared.trap.TrapKind.TheVariants.{PcAlign, Fetch as TrapFetch}
 use Rattle.emu_model.specs.State.{Core}
-use Rattle.emu_run.specs.declared.insn.Insn.TheVariants.{A64}
-use Rattle.emu_run.specs.ByTable.{a64}
 use Rattle.emu_run.specs.Step.{decode, trapped}
 use Rattle.emu_system.specs.SystemCall.{quiet}
 use Rattle.emu_machine.specs.declared.running.Running.TheInside.{Inside}
 use Rattle.emu_machine.specs.Machines.{MachineState}
 use Rattle.emu_machine.proofs.Left.{HasDone}
-use Rattle.emu_machine.proofs.Turns.{HasFetched, HasStepped, accesses_of_none, accesses_of_odd, accesses_of_refused, has_stepped, has_trapped, makes_no_row, makes_none, makes_refused, turn_of_none, turn_of_odd, turn_of_refused}
-use Rattle.emu_machine.proofs.running.Running.plain.Goals.{After-trap, After-trap-in-Err, After-trap-in-None, After-vector, After-scalar}
+use Rattle.emu_machine.proofs.Turns.{HasFetched, HasStepped, accesses_of_odd, accesses_of_refused, has_stepped, has_trapped, makes_none, makes_refused, turn_of_odd, turn_of_refused}
+use Rattle.emu_machine.proofs.running.Running.plain.Goals.{After-trap, After-trap-in-Err, After-vector, After-by_word}
 use Rattle.emu_machine.proofs.running.Running.plain.Goals as goal
 
 -- a machine that is open, as it is seen with this memory
@@ -101,33 +99,6 @@ returns-in-Err c =
       saved = d.saved;
     }
 
-undefined : (c : After-trap-in-None) → HasStepped c.args.self.now c.trap-in-None.new.self c.trap-in-None.result
-undefined c =
-    let i = c.self.inside in
-    let old = c.args.self.now in
-    let at = at_pc i c.deref.result.now c.pc-pc.result old c.pc-pc.ensures.value c.deref.ensures c.self.view_is in
-    let has = fetched_at i c.pc-pc.result old at c.self.view_is c.in-Ok.word c.if-pc-ne0.false (sym c.in-Ok.is ∙ c.load.ensures.value) in
-    let none : decode c.in-Ok.word ≡ None = sym c.decode_a64_word.ensures.table ∙ ap a64 c.in-None.is in
-    has_trapped old (seen i c.load.new.self) c.trap-in-None.new.self c.trap-in-None.result Undefined c.pc-pc.result (fetched_same i c.load.new.self old c.load.ensures.unchanged c.self.view_is)
-    c.requires.going c.requires.clear c.trap-in-None.ensures.progress c.trap-in-None.ensures.parts c.trap-in-None.ensures.accesses c.trap-in-None.ensures.failed c.trap-in-None.ensures.marks c.trap-in-None.ensures.saved
-    (makes_no_row old.parts c.in-Ok.word has none)
-    (λ input. turn_of_none old.parts c.in-Ok.word has none input ∙ ap (λ n. quiet (trapped old.parts Undefined n) input) (sym at)) (accesses_of_none old.parts c.in-Ok.word has none)
-
-pub returns-in-None : goal.returns-in-None
-returns-in-None c =
-    let d = undefined c in
-    record {
-      turn = d.turn;
-      kept = d.kept;
-      svc = d.svc;
-      alone = d.alone;
-      ended = d.ended;
-      counted = d.counted;
-      accesses = d.accesses;
-      marks = d.marks;
-      saved = d.saved;
-    }
-
 -- ---- a step that does an instruction
 
 of_vector : (c : After-vector) → HasStepped c.args.self.now c.vector.new.self c.vector.result
@@ -156,21 +127,20 @@ returns-then-may_be_sve c =
       saved = d.saved;
     }
 
-of_scalar : (c : After-scalar) → HasStepped c.args.self.now c.scalar.new.self c.scalar.result
-of_scalar c =
+of_word : (c : After-by_word) → HasStepped c.args.self.now c.by_word.new.self c.by_word.result
+of_word c =
     let i = c.self.inside in
     let old = c.args.self.now in
     let at = at_pc i c.deref.result.now c.pc-pc.result old c.pc-pc.ensures.value c.deref.ensures c.self.view_is in
     let has = fetched_at i c.pc-pc.result old at c.self.view_is c.in-Ok.word c.if-pc-ne0.false (sym c.in-Ok.is ∙ c.load.ensures.value) in
-    let e = c.scalar.ensures in
-    let done : HasDone (Some (A64 c.in-Some.insn)) (seen i c.load.new.self) c.scalar.new.self c.scalar.result =
+    let e = c.by_word.ensures in
+    let done : HasDone (decode c.in-Ok.word) (seen i c.load.new.self) c.by_word.new.self c.by_word.result =
     record { turn = e.turn; kept = e.kept; svc = e.svc; alone = e.alone; ended = e.ended; counted = e.counted; accesses = e.accesses; marks = e.marks; saved = e.saved } in
-    has_stepped c.in-Ok.word (Some (A64 c.in-Some.insn)) old (seen i c.load.new.self) c.scalar.new.self c.scalar.result (fetched_same i c.load.new.self old c.load.ensures.unchanged c.self.view_is) has
-    (ap a64 (sym c.in-Some.is) ∙ c.decode_a64_word.ensures.table) done
+    has_stepped c.in-Ok.word (decode c.in-Ok.word) old (seen i c.load.new.self) c.by_word.new.self c.by_word.result (fetched_same i c.load.new.self old c.load.ensures.unchanged c.self.view_is) has refl done
 
-pub returns-in-Some : goal.returns-in-Some
-returns-in-Some c =
-    let d = of_scalar c in
+pub returns : goal.returns
+returns c =
+    let d = of_word c in
     record {
       turn = d.turn;
       kept = d.kept;

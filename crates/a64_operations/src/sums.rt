@@ -1,6 +1,7 @@
 //! Sums of 32 or 64 bits with their flags, by arithmetic of 64 bits.
 ghost use Rattle.std.specs.Prelude.{◌≡◌, ◌<◌, ◌+◌, ◌-◌, ◌^◌, ◌⊎◌, nat_le, pos, ◌+ℤ◌};
 ghost use Rattle.emu_bits.specs.Fields.{bit};
+ghost use Rattle.emu_bits.specs.Operations.{flags_of_result};
 ghost use Rattle.emu_bits.specs.Numbers.{flags_of_sum, is_out_of_range, signed, sum_of};
 
 use emu_bits::Flags;
@@ -53,7 +54,7 @@ fn is_overflow(a: u64, b: u64, carry: bool, w: u32, sum: u64) -> bool
 /// The sum of two numbers and a carry, with its flags: the top bit, whether the sum is 0, whether the unsigned sum
 /// doesn't fit, and whether the signed sum doesn't.
 #[inline(always)]
-pub(crate) fn add_flags(a: u64, b: u64, carry: bool, w: u32) -> (u64, Flags)
+pub fn add_flags(a: u64, b: u64, carry: bool, w: u32) -> (u64, Flags)
     requires width { (w ≡ 32) ⊎ (w ≡ 64) }
     requires first { a < 2 ^ w }
     requires second { b < 2 ^ w }
@@ -68,4 +69,18 @@ pub(crate) fn add_flags(a: u64, b: u64, carry: bool, w: u32) -> (u64, Flags)
         v: is_overflow(a, b, carry, w, sum),
     };
     (sum, flags)
+}
+
+/// N and Z of a result of w bits, C and V clear.
+#[inline(always)]
+pub fn flags_of_result(w: u32, v: u64) -> Flags
+    requires { (w ≡ 32) ⊎ (w ≡ 64) }
+    ensures { result ≡ flags_of_result w v }
+{
+    Flags {
+        n: v >= half(w),
+        z: v == 0,
+        c: false,
+        v: false,
+    }
 }

@@ -6,7 +6,7 @@ use crate::numbers::{low, scaled_down, wrapped};
 use emu_bits::{U, sext};
 
 /// To the left.
-pub(crate) fn lsl(w: u32, a: u64, k: u32) -> u64
+pub fn lsl(w: u32, a: u64, k: u32) -> u64
     requires width { (w ≡ 32) ⊎ (w ≡ 64) }
     requires amount { k < 64 }
     ensures value { result ≡ table.lsl w a k }
@@ -16,7 +16,7 @@ pub(crate) fn lsl(w: u32, a: u64, k: u32) -> u64
 }
 
 /// To the right, with zeros above.
-pub(crate) fn lsr(w: u32, a: u64, k: u32) -> u64
+pub fn lsr(w: u32, a: u64, k: u32) -> u64
     requires amount { k < 64 }
     requires within { a < 2 ^ w }
     ensures value { result ≡ table.lsr a k }
@@ -26,7 +26,7 @@ pub(crate) fn lsr(w: u32, a: u64, k: u32) -> u64
 }
 
 /// To the right, with copies of the top bit above.
-pub(crate) fn asr(w: u32, a: u64, k: u32) -> u64
+pub fn asr(w: u32, a: u64, k: u32) -> u64
     requires width { (w ≡ 32) ⊎ (w ≡ 64) }
     requires amount { k < 64 }
     ensures value { result ≡ table.asr w a k }
@@ -36,7 +36,7 @@ pub(crate) fn asr(w: u32, a: u64, k: u32) -> u64
 }
 
 /// The w bits from place s on of `high` followed by `low`.
-pub(crate) fn extracted(w: u32, upper: u64, lower: u64, s: u32) -> u64
+pub fn extracted(w: u32, upper: u64, lower: u64, s: u32) -> u64
     requires width { (w ≡ 32) ⊎ (w ≡ 64) }
     requires place { s < 64 }
     requires within { lower < 2 ^ w }
@@ -47,7 +47,7 @@ pub(crate) fn extracted(w: u32, upper: u64, lower: u64, s: u32) -> u64
 }
 
 /// Rotated to the right.
-pub(crate) fn ror(w: u32, a: u64, k: u32) -> u64
+pub fn ror(w: u32, a: u64, k: u32) -> u64
     requires width { (w ≡ 32) ⊎ (w ≡ 64) }
     requires within { a < 2 ^ w }
     ensures value { result ≡ table.ror w a k }
@@ -57,7 +57,7 @@ pub(crate) fn ror(w: u32, a: u64, k: u32) -> u64
 }
 
 /// The shift of a field: 0 lsl, 1 lsr, 2 asr, 3 ror.
-pub(crate) fn shifted(w: u32, shift: U<2>, a: u64, amount: U<6>) -> u64
+pub fn shifted(w: u32, shift: U<2>, a: u64, amount: U<6>) -> u64
     requires width { (w ≡ 32) ⊎ (w ≡ 64) }
     requires within { a < 2 ^ w }
     ensures value { result ≡ table.shifted w shift a amount }

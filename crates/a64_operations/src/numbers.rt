@@ -5,7 +5,7 @@ ghost use Rattle.emu_bits.specs.Numbers.{unsigned_int, quotient};
 ghost use Rattle.emu_bits.specs.Operations as bits;
 
 /// A number modulo 2^w.
-pub(crate) fn low(w: u32, v: u128) -> u64
+pub fn low(w: u32, v: u128) -> u64
     requires { (w ≡ 32) ⊎ (w ≡ 64) }
     ensures value { result ≡ v % 2 ^ w }
     ensures small { result < 2 ^ w }
@@ -18,7 +18,7 @@ pub(crate) fn low(w: u32, v: u128) -> u64
 }
 
 /// NOT of w bits.
-pub(crate) fn complement(w: u32, a: u64) -> u64
+pub fn complement(w: u32, a: u64) -> u64
     requires width { (w ≡ 32) ⊎ (w ≡ 64) }
     requires within { a < 2 ^ w }
     ensures value { result ≡ bits.complement w a }
@@ -32,7 +32,7 @@ pub(crate) fn complement(w: u32, a: u64) -> u64
 }
 
 /// a less b, modulo 2^w.
-pub(crate) fn difference(w: u32, a: u64, b: u128) -> u64
+pub fn difference(w: u32, a: u64, b: u128) -> u64
     requires width { (w ≡ 32) ⊎ (w ≡ 64) }
     ensures { result ≡ bits.difference w a b }
 {
@@ -40,7 +40,7 @@ pub(crate) fn difference(w: u32, a: u64, b: u128) -> u64
 }
 
 /// A whole number modulo 2^w.
-pub(crate) fn wrapped(w: u32, z: i128) -> u64
+pub fn wrapped(w: u32, z: i128) -> u64
     requires { (w ≡ 32) ⊎ (w ≡ 64) }
     ensures value { result ≡ unsigned_int z w }
     ensures small { result < 2 ^ w }
@@ -48,21 +48,21 @@ pub(crate) fn wrapped(w: u32, z: i128) -> u64
     low(w, z.cast_unsigned())
 }
 
-pub(crate) fn product(x: i64, y: i64) -> i128
+pub fn product(x: i64, y: i64) -> i128
     ensures { result ≡ x *ℤ y }
 {
     x as i128 * y as i128
 }
 
 /// The quotient towards zero, and 0 where the second is 0.
-pub(crate) fn quotient(x: i64, y: i64) -> i128
+pub fn quotient(x: i64, y: i64) -> i128
     ensures { result ≡ quotient x y }
 {
     if y == 0 { 0 } else { x as i128 / y as i128 }
 }
 
 /// Rounded down.
-pub(crate) fn scaled_down(x: i128, k: u32) -> i128
+pub fn scaled_down(x: i128, k: u32) -> i128
     requires { k < 128 }
     ensures { result ≡ int_shr x k }
 {

@@ -1,0 +1,4 @@
+pub mod Bitfields
+pub mod Halfwords
+pub mod SignedFields
+pub mod SignedWords
