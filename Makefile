@@ -10,7 +10,7 @@ TOOL =
 TO = $(DESTDIR)$(PREFIX)
 
 # Tools in Python stand in lib/svemu beside their modules and the programs, svemu-tool by a link, and in bin/ by links.
-SCRIPTS = svemu-runner svemu-filter svemu-lengths
+SCRIPTS = svemu-runner svemu-filter svemu-lengths svemu-debug
 TOOLS = svemu-lanes svemu-curve svemu-cover svemu-diff svemu-schedules
 MODULES = svemu_pages.py svemu_steps.py svemu_aliases.py svemu_lanes_page.py svemu_program.py svemu_calls.py svemu_turns.py svemu_accesses.py svemu_trace.py svemu_failing.py
 GUESTS = start.S guest.h threads.h kernel_test.h

@@ -33,7 +33,7 @@ documents() {
     printf '#!/bin/sh\ncase $1 in --*) exec "%s/svemu" "$@" ;; esac\nexec "$SVEMU" "$@"\n' "$top" >"$tree/svemu"
     printf '#!/bin/sh\nexec "%s" "$@"\n' "$tool" >"$tree/svemu-tool"
     chmod +x "$tree/svemu" "$tree/svemu-tool"
-    for document in README.md docs/MANUAL.md docs/READING.md examples/README.md; do
+    for document in README.md docs/MANUAL.md docs/DEBUGGING.md docs/READING.md examples/README.md; do
         samples=$scratch/samples
         rm -rf "$samples"
         mkdir "$samples"

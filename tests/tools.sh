@@ -634,6 +634,14 @@ traces_of_steps() {
     holds "traces of steps" python3 tests/traces.py "$SVEMU" "$tool" "$@"
 }
 
+# Sessions of the debugger for people find what their tasks ask for, and stand where `trace` says; and one at a terminal.
+debugger_for_people() {
+    ! lacks "the debugger for people" python3 || return 0
+    holds "sessions of the debugger" python3 tests/debugger.py "$tool"
+    ! lacks "a session at a terminal" tmux || return 0
+    holds "a session at a terminal" sh tests/debugging.sh "$tool"
+}
+
 . tests/start.sh
 . tests/runner.sh
 . tests/recipes.sh
@@ -684,6 +692,7 @@ if [ "$failed" -eq 0 ]; then
     part "families of words" families_of_words
     part "counts of words" counts_of_words
     part "traces of steps" traces_of_steps
+    part "the debugger for people" debugger_for_people
     part "kernels and guarded buffers" kernel_tests
     part "where two lengths part" where_lengths_part
     part "what ran over the lengths" covered

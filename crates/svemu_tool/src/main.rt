@@ -12,10 +12,11 @@ use crate::families::{push_family, word_of};
 use crate::texts::{USAGE, VERSION};
 use io_gate::{FileImages, StdSink, StdSource, put_all};
 use std::alloc::{AllocError, Global};
-use std::io::Write;
+use std::io::{IsTerminal, Write};
 use std::process::ExitCode;
 use std::{env, fs};
 use tool_counts::count_program;
+use tool_debug::debug_program;
 use tool_lines::{RunLine, ToolFault, ToolLine, Variables, counted_words, tool_line};
 use tool_run::{file_text, line_text, run_program};
 use tool_traces::trace_program;
@@ -187,6 +188,25 @@ fn trace(rt: &HostRuntime, words: &[String]) -> u8 {
     .status()
 }
 
+/// A session of a person.
+fn debug(rt: &HostRuntime, words: &[String]) -> u8 {
+    let prompted = rt.stdin().is_terminal();
+    let mut files = FileImages::new(rt);
+    let mut commands = StdSource::new(rt.stdin());
+    let mut output = StdSink::new(rt.stdout());
+    let mut errors = StdSink::new(rt.stderr());
+    debug_program(
+        rt.alloc(),
+        words,
+        prompted,
+        &mut files,
+        &mut commands,
+        &mut output,
+        &mut errors,
+    )
+    .status()
+}
+
 /// Writes the family of a word that a text gives.
 fn write_family(rt: &HostRuntime, text: &str) -> u8 {
     let Some(word) = word_of(text) else {
@@ -234,6 +254,7 @@ fn obey(rt: &HostRuntime, words: &[String]) -> u8 {
         Ok(ToolLine::Run(line)) => run(rt, words, &line),
         Ok(ToolLine::Count) => count(rt, words),
         Ok(ToolLine::Trace) => trace(rt, words),
+        Ok(ToolLine::Debug) => debug(rt, words),
         Ok(ToolLine::Help) => write_text(rt, USAGE),
         Ok(ToolLine::Version) => write_text(rt, VERSION),
         Ok(ToolLine::Family) if words.len() > 1 => families_of_words(rt, words),

@@ -6,6 +6,8 @@ usage: svemu-tool run [OPTION ..] PROGRAM [ARG ..]
        svemu-tool family [WORD ..]
        svemu-tool count FILE --vl N|all --budget B [--pages P] [-- ARG ..]
        svemu-tool trace FILE --vl N --budget B [--pages P] [OPTION ..] [-- ARG ..]
+       svemu-tool debug FILE [--vl N] [--budget B] [--pages P] [--input FILE] [--lines FILE] [--script FILE]
+                  [-- ARG ..]
        svemu-tool --help | --version
 
 run runs a static AArch64 program with SVE: its input, output, errors and status are its own. Where it doesn't come to
@@ -36,6 +38,10 @@ did. What the program writes is dropped.
   --until PLACE      end before a later step at a symbol or an address
   --show LIST        tell only these, with commas between: x, sp, nzcv, tpidr, vl, z, p, ffr, memory
   --in SYMBOL        tell only steps in the function of that name
+
+debug is a debugger for people: a command a line, with the names that gdb has; `help` lists them. It goes back as it goes
+on. The program's input is that of --input, and the lines of its source those of the table of --lines, which svemu-debug
+makes; without --script the commands are those of the input.
 
 status of run: the program's own; 128 and the number of the signal of a trap; 119 no thread is ready; 120 without
 memory; 121 a refused line; 122 a refused program or schedule; 123 the steps are spent; 124 or 125 the input or an

@@ -135,9 +135,10 @@ line_of_command words name =
     else (if bytes_eq name (codes "family") then Ok lines.Family
     else (if bytes_eq name (codes "count") then Ok lines.Count
     else (if bytes_eq name (codes "trace") then Ok lines.Trace
+    else (if bytes_eq name (codes "debug") then Ok lines.Debug
     else (if bytes_eq name (codes "run")
     then and_then (read_words nothing_seen 1 (drop 1 words)) (λ seen. at_end seen (length words))
-    else refusal_at UnknownCommand 0)))))
+    else refusal_at UnknownCommand 0))))))
 
 abbrev pub tool_line : List (List ℕ) → Result ToolLine ToolFault
 tool_line [] = refusal_at NoCommand 0
@@ -162,4 +163,5 @@ HasPlaces count lines.Version = Unit {0}
 HasPlaces count lines.Family = Unit {0}
 HasPlaces count lines.Count = 1 ≤ count
 HasPlaces count lines.Trace = 1 ≤ count
+HasPlaces count lines.Debug = 1 ≤ count
 HasPlaces count (lines.Run line) = HasRunPlaces count line

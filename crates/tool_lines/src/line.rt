@@ -65,6 +65,8 @@ pub enum ToolLine {
     Count,
     /// Tells the steps of a run.
     Trace,
+    /// A session of a person over a run.
+    Debug,
 }
 
 /// Why a command line is refused.
@@ -315,6 +317,9 @@ fn line_of_command(words: &[String], name: &str) -> Result<ToolLine, ToolFault>
     }
     if name == "trace" {
         return Ok(ToolLine::Trace);
+    }
+    if name == "debug" {
+        return Ok(ToolLine::Debug);
     }
     if name == "run" {
         return at_end(read_words(words)?, words.len());

@@ -1,0 +1,12 @@
+use Rattle.std.proofs.Common.{◌≡◌, ◌++◌, length, map, take, drop}
+use Rattle.debug_points.specs.Points.{with_enabled}
+use Rattle.debug_points.proofs.points.Points.set_enabled.Given as goal
+
+-- the points so far are changed, and the rest as before
+abbrev pub invariant-points : goal.invariant-points
+invariant-points l =
+    record {
+      items : l.self-inside.items.items ≡ map (with_enabled l.enabled l.number) (take l.k l.fn.self.items) ++ drop l.k l.fn.self.items;
+      next : l.self-inside.next ≡ l.fn.self.next;
+      count : l.k-end ≡ length l.fn.self.items;
+    }

@@ -1,0 +1,6 @@
+//! Where bytes stand in memory.
+#![tactic(auto)]
+
+mod finds;
+
+pub use finds::next_found;

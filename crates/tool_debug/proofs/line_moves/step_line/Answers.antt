@@ -1,0 +1,15 @@
+use Rattle.std.proofs.Common.{refl, sym, ◌∙◌}
+use Rattle.tool_debug.proofs.Staying.{stays_in, stays_same, stays_then, still_on, walks_in}
+use Rattle.tool_debug.proofs.line_moves.step_line.Goals as goal
+
+pub rows-init : goal.rows-init
+rows-init g c = record { stays = stays_same; input = refl }
+
+pub pass_row-requires : goal.pass_row-requires
+pass_row-requires g c = walks_in (sym c.rows.invariant.input) (still_on c.rows.invariant.stays c.requires.walks)
+
+pub rows-preserved : goal.rows-preserved
+rows-preserved g c = record {
+  stays = stays_then c.rows.invariant.stays (stays_in c.rows.invariant.input c.in_ok-pass_row.ensures.stays);
+  input = c.in_ok-pass_row.ensures.input ∙ c.rows.invariant.input;
+}

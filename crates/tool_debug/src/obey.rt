@@ -1,0 +1,570 @@
+//! A command obeyed.
+ghost use Rattle.std.specs.Prelude.{◌≡◌, IfOk, OnOk};
+ghost use Rattle.dbg_back.specs.Walks.{CanWalk};
+ghost use Rattle.debug_walk.specs.Walks.{StaysOn};
+ghost use Rattle.tool_debug.specs.Sessions.{MeetsStop};
+
+use crate::ends::Broken;
+use crate::line_moves::is_by_lines;
+use crate::listings::{put_line, put_listing};
+use crate::moves::{go, go_to_last_write};
+use crate::reports::{before_step, put, put_stop, put_where};
+use crate::searches::put_found;
+use crate::session::{Reached, Session};
+use dbg_core::{Command as Shown, show};
+use debug_names::{Register, Thing, Verb, vector_of};
+use debug_places::{Format, Notation, Place};
+use debug_points::{Aim, What};
+use debug_shows::{
+    push_backtrace, push_disassembly, push_help, push_memory, push_place, push_points, push_thing,
+};
+use debug_texts::{push_decimal, push_hex, push_lanes, push_number};
+use debug_values::address_of;
+use debug_walk::Trail;
+use debug_words::{Change, Command};
+use emu_bits::Esize;
+use emu_machine::Machine;
+use io_gate::Sink;
+use std::alloc::{AllocError, Global};
+
+/// Adds a break or watch, and puts it.
+fn add<O: Sink>(
+    alloc: Global,
+    session: &mut Session<'_>,
+    what: What,
+    once: bool,
+    address: u64,
+    output: &mut O,
+) -> Result<(), Broken>
+    ensures { session.new.input.now ≡ session.old.input.now }
+{
+    if session.points.items().len() >= 64 {
+        return put("there are 64 breaks and watches: delete one\n", output);
+    }
+    if session.points.is_full() {
+        return put("no number is left for a break or watch\n", output);
+    }
+    let number = session.points.add(what, once)?;
+    let mut text = String::new(alloc);
+    text.push_str("number ")?;
+    push_decimal(&mut text, number)?;
+    text.push_str(" at ")?;
+    push_place(&mut text, session.symbols, address)?;
+    text.push_str("\n")?;
+    put(text.as_str(), output)
+}
+
+/// Changes a break or watch, or all.
+fn change<O: Sink>(
+    session: &mut Session<'_>,
+    way: Change,
+    number: Option<u64>,
+    output: &mut O,
+) -> Result<(), Broken>
+    ensures { session.new.input.now ≡ session.old.input.now }
+{
+    match number {
+        Some(number) if !session.points.has(number) => put(
+            "no break or watch has that number\n",
+            output,
+        ),
+        number => {
+            session.points.change(way, number);
+            Ok(())
+        }
+    }
+}
+
+/// Lets a break or watch pass so many stops.
+fn ignore<O: Sink>(
+    session: &mut Session<'_>,
+    number: u64,
+    count: u64,
+    output: &mut O,
+) -> Result<(), Broken>
+    ensures { session.new.input.now ≡ session.old.input.now }
+{
+    if !session.points.has(number) {
+        return put("no break or watch has that number\n", output);
+    }
+    session.points.ignore(number, count);
+    Ok(())
+}
+
+/// Puts a register, or all scalar ones.
+fn put_registers<O: Sink>(
+    alloc: Global,
+    register: Option<Register>,
+    machine: &Machine,
+    output: &mut O,
+) -> Result<(), Broken> {
+    match register {
+        None => {
+            show(machine, &Shown::Regs, output)?;
+            Ok(())
+        }
+        Some(register) => put_thing(alloc, None, Thing::Scalar(register), machine, output),
+    }
+}
+
+/// Puts what a name names of the registers.
+fn put_thing<O: Sink>(
+    alloc: Global,
+    notation: Option<Notation>,
+    thing: Thing,
+    machine: &Machine,
+    output: &mut O,
+) -> Result<(), Broken> {
+    let mut text = String::new(alloc);
+    push_thing(&mut text, notation, machine, &thing)?;
+    put(text.as_str(), output)
+}
+
+/// Puts the address of a place.
+fn put_place<O: Sink>(
+    alloc: Global,
+    session: &Session<'_>,
+    notation: Option<Notation>,
+    place: Place,
+    machine: &Machine,
+    output: &mut O,
+) -> Result<(), Broken> {
+    let address = address_of(machine, place);
+    let mut text = String::new(alloc);
+    match notation {
+        Some(notation) => push_number(&mut text, notation, 64, address)?,
+        None => push_place(&mut text, session.symbols, address)?,
+    }
+    text.push_str("\n")?;
+    put(text.as_str(), output)
+}
+
+/// Puts memory.
+fn put_memory<O: Sink>(
+    alloc: Global,
+    session: &Session<'_>,
+    format: Format,
+    place: Place,
+    machine: &Machine,
+    output: &mut O,
+) -> Result<(), Broken> {
+    let mut text = String::new(alloc);
+    push_memory(
+        &mut text,
+        session.symbols,
+        format,
+        address_of(machine, place),
+        machine,
+    )?;
+    put(text.as_str(), output)
+}
+
+/// Puts the instructions of a function.
+fn put_disassembly<O: Sink>(
+    alloc: Global,
+    session: &Session<'_>,
+    place: Option<Place>,
+    machine: &Machine,
+    output: &mut O,
+) -> Result<(), Broken> {
+    let address = match place {
+        None => machine.core().pc(),
+        Some(place) => address_of(machine, place),
+    };
+    let mut text = String::new(alloc);
+    push_disassembly(&mut text, session.symbols, address, machine)?;
+    put(text.as_str(), output)
+}
+
+/// Puts the calls that led here.
+fn put_backtrace<O: Sink>(
+    alloc: Global,
+    session: &Session<'_>,
+    machine: &Machine,
+    output: &mut O,
+) -> Result<(), Broken> {
+    let mut text = String::new(alloc);
+    push_backtrace(&mut text, session.symbols, machine)?;
+    put(text.as_str(), output)
+}
+
+/// Puts the breaks and watches.
+fn put_points<O: Sink>(alloc: Global, session: &Session<'_>, output: &mut O) -> Result<(), Broken> {
+    let mut text = String::new(alloc);
+    push_points(&mut text, session.symbols, &session.points)?;
+    put(text.as_str(), output)
+}
+
+/// Puts how many steps are counted.
+fn put_when<O: Sink>(alloc: Global, machine: &Machine, output: &mut O) -> Result<(), Broken> {
+    let mut text = String::new(alloc);
+    text.push_str("step ")?;
+    push_decimal(&mut text, machine.steps())?;
+    text.push_str("\n")?;
+    put(text.as_str(), output)
+}
+
+/// The registers that the words behind the first name. Err is want of memory.
+fn columns(alloc: Global, words: &[&str], count: usize) -> Result<Vec<Thing>, AllocError> {
+    let mut things = Vec::new(alloc);
+    'words: for k in 0..count {
+        if k + 1 < words.len() {
+            if let Some(thing) = vector_of(words[k + 1]) {
+                things.push(thing)?;
+            }
+        }
+    }
+    Ok(things)
+}
+
+/// Puts lanes beside each other.
+fn put_lanes<O: Sink, E: Sink>(
+    alloc: Global,
+    session: &Session<'_>,
+    words: &[&str],
+    count: usize,
+    size: Option<Esize>,
+    machine: &mut Machine,
+    trail: &mut Trail,
+    output: &mut O,
+    errors: &mut E,
+) -> Result<(), Broken>
+    requires walks { CanWalk session.now.input.now machine.old trail.old }
+    ensures stays { OnOk result (StaysOn session.now.input.now machine.old machine.new trail.old trail.new) }
+{
+    let things = columns(alloc, words, count)?;
+    let before = before_step(alloc, session, machine, trail, output, errors)?;
+    let mut text = String::new(alloc);
+    let now = machine.vec();
+    let old = match &before {
+        None => now,
+        Some(before) => before.vec(),
+    };
+    push_lanes(&mut text, old, now, size, &things)?;
+    put(text.as_str(), output)
+}
+
+/// Puts the form of a command, or of all.
+fn put_help<O: Sink>(alloc: Global, verb: Option<Verb>, output: &mut O) -> Result<(), Broken> {
+    let mut text = String::new(alloc);
+    push_help(&mut text, verb)?;
+    put(text.as_str(), output)
+}
+
+/// Goes back to the last write to so many bytes from an address on, and puts where that is.
+fn last_write<O: Sink, E: Sink>(
+    alloc: Global,
+    session: &Session<'_>,
+    address: u64,
+    count: u64,
+    machine: &mut Machine,
+    trail: &mut Trail,
+    output: &mut O,
+    errors: &mut E,
+) -> Result<(), Broken>
+    requires walks { CanWalk session.now.input.now machine.old trail.old }
+    ensures stays { OnOk result (StaysOn session.now.input.now machine.old machine.new trail.old trail.new) }
+{
+    let found = go_to_last_write(
+        alloc, session, address, count, machine, trail, output, errors,
+    )?;
+    if found {
+        let reached = Reached::Written(address, count);
+        return put_stop(alloc, session, reached, machine, trail, output, errors);
+    }
+    let mut text = String::new(alloc);
+    text.push_str("no step before this one wrote to ")?;
+    push_hex(&mut text, address)?;
+    text.push_str("\n")?;
+    put(text.as_str(), output)
+}
+
+/// Obeys a command that moves the machine: to what it reached.
+fn reach<O: Sink, E: Sink>(
+    session: &mut Session<'_>,
+    command: Command,
+    machine: &mut Machine,
+    trail: &mut Trail,
+    output: &mut O,
+    errors: &mut E,
+) -> Result<Reached, Broken>
+    requires walks { CanWalk session.old.input.now machine.old trail.old }
+    ensures stays { OnOk result (StaysOn session.old.input.now machine.old machine.new trail.old trail.new) }
+    ensures input { session.new.input.now ≡ session.old.input.now }
+    ensures met { IfOk result (MeetsStop machine.new) }
+{
+    match command {
+        Command::Run => {
+            session.go(machine, trail, 0, output, errors)?;
+            session.seek(Aim::Stops, machine, trail, output, errors)
+        }
+        Command::Go(way, count) => go(session, way, count, machine, trail, output, errors),
+        Command::Finish => {
+            let aim = session.behind_return(machine);
+            session.seek(aim, machine, trail, output, errors)
+        }
+        Command::Until(place) => {
+            let aim = Aim::At(address_of(machine, place));
+            session.seek(aim, machine, trail, output, errors)
+        }
+        Command::FinishBack => {
+            let aim = session.before_call(machine);
+            Ok(session.seek_back(aim, machine, trail))
+        }
+        Command::Goto(steps) => {
+            session.go(machine, trail, steps, output, errors)?;
+            Ok(Reached::Aim)
+        }
+        _ => Ok(Reached::Aim),
+    }
+}
+
+/// Obeys a command that moves the machine, and puts where it stands then.
+fn move_by<O: Sink, E: Sink>(
+    alloc: Global,
+    session: &mut Session<'_>,
+    command: Command,
+    machine: &mut Machine,
+    trail: &mut Trail,
+    output: &mut O,
+    errors: &mut E,
+) -> Result<(), Broken>
+    requires walks { CanWalk session.old.input.now machine.old trail.old }
+    ensures stays { OnOk result (StaysOn session.old.input.now machine.old machine.new trail.old trail.new) }
+    ensures input { session.new.input.now ≡ session.old.input.now }
+{
+    let reached = reach(session, command, machine, trail, output, errors)?;
+    put_stop(alloc, session, reached, machine, trail, output, errors)
+}
+
+/// Obeys a command that shows something of the machine as it is.
+fn show_by<O: Sink>(
+    alloc: Global,
+    session: &Session<'_>,
+    command: Command,
+    machine: &Machine,
+    output: &mut O,
+) -> Result<(), Broken> {
+    match command {
+        Command::InfoPoints => put_points(alloc, session, output),
+        Command::InfoRegisters(register) => put_registers(alloc, register, machine, output),
+        Command::InfoLine(place) => put_line(alloc, session, place, machine, output),
+        Command::InfoSymbol(place) => put_place(alloc, session, None, place, machine, output),
+        Command::Print(format, thing) => put_thing(alloc, format.notation, thing, machine, output),
+        Command::PrintPlace(format, place) => put_place(
+            alloc,
+            session,
+            format.notation,
+            place,
+            machine,
+            output,
+        ),
+        Command::Examine(format, place) => put_memory(
+            alloc, session, format, place, machine, output,
+        ),
+        Command::Disassemble(place) => put_disassembly(alloc, session, place, machine, output),
+        Command::Backtrace => put_backtrace(alloc, session, machine, output),
+        Command::Where => put_where(alloc, session, machine, output),
+        Command::When => put_when(alloc, machine, output),
+        Command::Help(verb) => put_help(alloc, verb, output),
+        _ => Ok(()),
+    }
+}
+
+/// Obeys a command that adds or changes breaks and watches.
+fn point_by<O: Sink>(
+    alloc: Global,
+    session: &mut Session<'_>,
+    command: Command,
+    machine: &Machine,
+    output: &mut O,
+) -> Result<(), Broken>
+    ensures { session.new.input.now ≡ session.old.input.now }
+{
+    match command {
+        Command::Break(place, condition, once) => {
+            let address = address_of(machine, place);
+            add(
+                alloc,
+                session,
+                What::Break(address, condition),
+                once,
+                address,
+                output,
+            )
+        }
+        Command::Watch(kind, place, count) => {
+            let address = address_of(machine, place);
+            add(
+                alloc,
+                session,
+                What::Watch(kind, address, count),
+                false,
+                address,
+                output,
+            )
+        }
+        Command::Change(way, number) => change(session, way, number, output),
+        Command::Ignore(number, count) => ignore(session, number, count, output),
+        _ => Ok(()),
+    }
+}
+
+/// Obeys a command that may move the machine, or shows what its last step changed.
+fn walk_by<O: Sink, E: Sink>(
+    alloc: Global,
+    session: &mut Session<'_>,
+    words: &[&str],
+    command: Command,
+    machine: &mut Machine,
+    trail: &mut Trail,
+    output: &mut O,
+    errors: &mut E,
+) -> Result<(), Broken>
+    requires walks { CanWalk session.old.input.now machine.old trail.old }
+    ensures stays { OnOk result (StaysOn session.old.input.now machine.old machine.new trail.old trail.new) }
+    ensures input { session.new.input.now ≡ session.old.input.now }
+{
+    match command {
+        Command::Lanes(count, size) => put_lanes(
+            alloc, session, words, count, size, machine, trail, output, errors,
+        ),
+        Command::LastWrite(place, count) => {
+            let address = address_of(machine, place);
+            last_write(
+                alloc, session, address, count, machine, trail, output, errors,
+            )
+        }
+        moved => move_by(alloc, session, moved, machine, trail, output, errors),
+    }
+}
+
+/// Whether a command goes on by lines of the source, of which none is known.
+fn lacks_lines(session: &Session<'_>, command: &Command) -> bool {
+    match command {
+        Command::Go(way, _) => session.rows.is_empty() && is_by_lines(*way),
+        _ => false,
+    }
+}
+
+/// Obeys a command that may move the machine, or shows what its last step changed, unless it goes by lines that aren't
+/// known. Listings begin anew behind it.
+fn walk_or_refuse<O: Sink, E: Sink>(
+    alloc: Global,
+    session: &mut Session<'_>,
+    words: &[&str],
+    command: Command,
+    machine: &mut Machine,
+    trail: &mut Trail,
+    output: &mut O,
+    errors: &mut E,
+) -> Result<(), Broken>
+    requires walks { CanWalk session.old.input.now machine.old trail.old }
+    ensures stays { OnOk result (StaysOn session.old.input.now machine.old machine.new trail.old trail.new) }
+    ensures input { session.new.input.now ≡ session.old.input.now }
+{
+    if lacks_lines(session, &command) {
+        return put(
+            "no lines of the source are known: svemu-debug gives them, or --lines FILE\n",
+            output,
+        );
+    }
+    session.listed = None;
+    walk_by(
+        alloc, session, words, command, machine, trail, output, errors,
+    )
+}
+
+/// Obeys a search.
+fn find_by<O: Sink>(
+    alloc: Global,
+    session: &Session<'_>,
+    words: &[&str],
+    command: Command,
+    machine: &Machine,
+    output: &mut O,
+) -> Result<(), Broken> {
+    match command {
+        Command::Find(format, place, extent, count) => {
+            let first = address_of(machine, place);
+            put_found(
+                alloc, session, words, format, first, extent, count, machine, output,
+            )
+        }
+        _ => Ok(()),
+    }
+}
+
+/// What a command does beside the machine.
+#[derive(Clone, Copy, Debug, PartialEq, Eq)]
+enum Kind {
+    Ends,
+    Sets(u64),
+    Points,
+    Lists(Option<Place>),
+    Finds,
+    Shows,
+    Walks,
+}
+
+/// What kind a command is of.
+fn kind_of(command: &Command) -> Kind {
+    match command {
+        Command::Quit => Kind::Ends,
+        Command::Slice(steps) => Kind::Sets(*steps),
+        Command::Break(_, _, _) | Command::Watch(_, _, _) => Kind::Points,
+        Command::Change(_, _) | Command::Ignore(_, _) => Kind::Points,
+        Command::List(place) => Kind::Lists(*place),
+        Command::Find(_, _, _, _) => Kind::Finds,
+        Command::Lanes(_, _) | Command::LastWrite(_, _) => Kind::Walks,
+        Command::Run | Command::Go(_, _) | Command::Finish | Command::Until(_) => Kind::Walks,
+        Command::FinishBack | Command::Goto(_) => Kind::Walks,
+        _ => Kind::Shows,
+    }
+}
+
+/// Obeys a command. False where it ends the session.
+pub fn obey<O: Sink, E: Sink>(
+    alloc: Global,
+    session: &mut Session<'_>,
+    words: &[&str],
+    command: Command,
+    machine: &mut Machine,
+    trail: &mut Trail,
+    output: &mut O,
+    errors: &mut E,
+) -> Result<bool, Broken>
+    requires walks { CanWalk session.old.input.now machine.old trail.old }
+    ensures stays { OnOk result (StaysOn session.old.input.now machine.old machine.new trail.old trail.new) }
+    ensures input { session.new.input.now ≡ session.old.input.now }
+{
+    match kind_of(&command) {
+        Kind::Ends => Ok(false),
+        Kind::Sets(steps) => {
+            session.slice = steps;
+            Ok(true)
+        }
+        Kind::Points => {
+            point_by(alloc, session, command, machine, output)?;
+            Ok(true)
+        }
+        Kind::Lists(place) => {
+            put_listing(alloc, session, place, machine, output)?;
+            Ok(true)
+        }
+        Kind::Finds => {
+            find_by(alloc, session, words, command, machine, output)?;
+            Ok(true)
+        }
+        Kind::Shows => {
+            show_by(alloc, session, command, machine, output)?;
+            Ok(true)
+        }
+        Kind::Walks => {
+            walk_or_refuse(
+                alloc, session, words, command, machine, trail, output, errors,
+            )?;
+            Ok(true)
+        }
+    }
+}
