@@ -1,5 +1,5 @@
 -- What is reached is met.
-use Rattle.std.proofs.Common.{◌≡◌, ℕ, Bool, true, false, ◌||◌, List, Option, Some, None, slice_get, is_some, nat_eq, nat_le, if◌then◌else◌, sym, ap, subst, ◌∙◌}
+use Rattle.std.proofs.Common.{◌≡◌, ℕ, Bool, true, false, ◌||◌, List, Some, None, slice_get, is_some, nat_eq, nat_le, if◌then◌else◌, sym, ap, subst, ◌∙◌}
 use Rattle.std.proofs.lemmas.List.Quantifiers.{position-Some}
 use Rattle.std.proofs.lemmas.Option.{get_or_from_slice_get}
 use Rattle.emu_model.specs.declared.access.Access.{Access}
@@ -7,7 +7,6 @@ use Rattle.emu_model.specs.State.{Parts}
 use Rattle.emu_machine.specs.Machines.{MachineState}
 use Rattle.debug_points.specs.declared.points.Point.{Point}
 use Rattle.debug_points.specs.Points.{Points, behind_met, first_met, point_meets}
-use Rattle.tool_debug.specs.declared.session.Reached.{Reached}
 use Rattle.tool_debug.specs.declared.session.Reached.TheVariants as reached
 use Rattle.tool_debug.specs.Sessions.{MeetsStop, Met, met_by, met_first, met_place, met_point, unmet}
 

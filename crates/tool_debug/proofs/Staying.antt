@@ -1,11 +1,11 @@
 -- A session's machine stays one that the run from its start passes.
-use Rattle.std.proofs.Common.{◌≡◌, ℕ, Bool, true, false, List, Option, is_err, Result, Ok, Err, ap, sym, subst, refl, ◌∙◌}
+use Rattle.std.proofs.Common.{◌≡◌, ℕ, Bool, false, List, Option, is_err, Result, Ok, Err, ap, sym, subst, ◌∙◌}
 use Rattle.std.specs.Result.{OnOk}
 use Rattle.emu_model.specs.State.{State}
 use Rattle.emu_machine.specs.Machines.{MachineState}
 use Rattle.dbg_model.specs.Session.{Course}
 use Rattle.dbg_back.specs.declared.trail.Trail.{Trail}
-use Rattle.dbg_back.specs.Walks.{CanWalk, Does, IsWalk}
+use Rattle.dbg_back.specs.Walks.{CanWalk, Does}
 use Rattle.debug_walk.specs.Walks.{IsOnWalk, StaysOn}
 
 -- where it isn't moved
@@ -40,9 +40,9 @@ ok_stays (Ok x) same d = stays_by (sym same) d
 ok_stays (Err e) same d = tt
 
 -- by two calls one after the other, of which the second may fail
-pub ok_then : {A E : Type 0} (r : Result A E) {input : List ℕ} {m n u : MachineState} {t v w : Trail} → StaysOn input m n t v → OnOk r (StaysOn input n u v w) → OnOk r (StaysOn input m u t w)
-ok_then (Ok x) first second = stays_then first second
-ok_then (Err e) first second = tt
+pub ok_then : {A E : Type 0} (r : Result A E) {input other : List ℕ} {m n : MachineState} {t v : Trail} (u : MachineState) (w : Trail) → other ≡ input → StaysOn input m n t v → OnOk r (StaysOn other n u v w) → OnOk r (StaysOn input m u t w)
+ok_then (Ok x) u w same first second = stays_then first (stays_in same second)
+ok_then (Err e) u w same first second = tt
 
 -- no stream failed where a call answers so
 pub none_failed : {A E : Type 0} (r : Result A E) (x : A) {b : Bool} → is_err r ≡ b → r ≡ Ok x → b ≡ false

@@ -41,14 +41,14 @@ struct Program {
     pages: u32,
 }
 
-/// What a session is over beside its program: the lines and files of its source, the program's input, the commands where
-/// a file has them, and whether a prompt is shown before each line.
+/// What a session is over beside its program: the lines and files of its source, the program's input, the commands
+/// where a file has them, and whether a prompt is shown before each line.
 #[derive(Drop)]
-struct Ask<'a> {
-    rows: &'a [Row<'a>],
-    sources: &'a [SourceFile<'a>],
-    input: &'a [u8],
-    script: Option<&'a [u8]>,
+struct Ask<'rows, 'table, 'sources, 'texts, 'input, 'script> {
+    rows: &'rows [Row<'table>],
+    sources: &'sources [SourceFile<'texts>],
+    input: &'input [u8],
+    script: Option<&'script [u8]>,
     prompted: bool,
 }
 
@@ -61,7 +61,8 @@ fn arguments(
 ) -> Result<Vec<String>, AllocError>
     requires file { file < length words.now }
     requires args { args ≤ length words.now }
-    ensures { IfOk result (λ list. map string_bytes list.items ≡ program_arguments (map string_bytes words.now) file args) }
+    ensures { IfOk result (λ list.
+        map string_bytes list.items ≡ program_arguments (map string_bytes words.now) file args) }
 {
     let mut list = Vec::new(alloc);
     push_word(alloc, &mut list, word(words, file))?;
@@ -94,7 +95,7 @@ fn ending_of(talked: Result<(), Broken>) -> Ending {
 /// A session over a machine.
 fn debug_machine<F: Images, C: Source, O: Sink, E: Sink>(
     alloc: Global,
-    session: &mut Session<'_>,
+    session: &mut Session,
     machine: &mut Machine,
     script: Option<&[u8]>,
     files: &mut F,
@@ -130,7 +131,7 @@ fn debug_image<F: Images, C: Source, O: Sink, E: Sink>(
     image: &Image,
     args: &[String],
     program: &Program,
-    asked: &Ask<'_>,
+    asked: &Ask,
     files: &mut F,
     commands: &mut C,
     output: &mut O,
@@ -176,7 +177,7 @@ fn debug_bytes<F: Images, C: Source, O: Sink, E: Sink>(
     bytes: &[u8],
     same: &[String],
     program: &Program,
-    asked: &Ask<'_>,
+    asked: &Ask,
     files: &mut F,
     commands: &mut C,
     output: &mut O,
@@ -274,6 +275,51 @@ fn rows_of<'a, E: Sink>(
     }
 }
 
+/// The commands of a file, where a line names one.
+fn script_of<'a>(given: &Given, script: &'a [u8]) -> Option<&'a [u8]> {
+    if given.script.is_some() {
+        Some(script)
+    } else {
+        None
+    }
+}
+
+/// A session over a program whose files were read.
+fn debug_read<F: Images, C: Source, O: Sink, E: Sink>(
+    alloc: Global,
+    bytes: &[u8],
+    rows: &[Row<'_>],
+    sources: &[SourceFile<'_>],
+    input: &[u8],
+    script: &[u8],
+    same: &[String],
+    given: &Given,
+    program: &Program,
+    prompted: bool,
+    files: &mut F,
+    commands: &mut C,
+    output: &mut O,
+    errors: &mut E,
+) -> Ending
+    requires file { program.now.file < program.now.args }
+    requires args { program.now.args ≤ length same.now }
+    requires arguments { AreArguments (program_arguments
+        (map string_bytes same.now) program.now.file program.now.args) }
+    requires pages { program.now.pages ≤ most_mapped_pages }
+{
+    let script = script_of(given, script);
+    let asked = Ask {
+        rows,
+        sources,
+        input,
+        script,
+        prompted: prompted && given.script.is_none(),
+    };
+    debug_bytes(
+        alloc, bytes, same, program, &asked, files, commands, output, errors,
+    )
+}
+
 /// A session over a program, whose files are read first.
 fn debug_files<F: Images, C: Source, O: Sink, E: Sink>(
     alloc: Global,
@@ -300,19 +346,9 @@ fn debug_files<F: Images, C: Source, O: Sink, E: Sink>(
     let rows = rows_of(alloc, words, given, table.as_str(), errors)?;
     let read = read_sources(alloc, &rows, files)?;
     let sources = seen_sources(alloc, &read)?;
-    let asked = Ask {
-        rows: &rows,
-        sources: &sources,
-        input: &input,
-        script: if given.script.is_some() {
-            Some(&script)
-        } else {
-            None
-        },
-        prompted: prompted && given.script.is_none(),
-    };
-    Ok(debug_bytes(
-        alloc, &bytes, same, program, &asked, files, commands, output, errors,
+    Ok(debug_read(
+        alloc, &bytes, &rows, &sources, &input, &script, same, given, program, prompted, files,
+        commands, output, errors,
     ))
 }
 
@@ -361,7 +397,8 @@ fn debug_line<F: Images, C: Source, O: Sink, E: Sink>(
 
 /// A session of a person over what words of `svemu-tool` say whose first is `debug`: the lines of `commands`, or those
 /// of the file that `--script` names, are obeyed one after the other, each before the next is read. The program's input
-/// is the file that `--input` names, and the lines of its source are those of the table that `--lines` names. What the program writes, and what is shown, goes to `output`.
+/// is the file that `--input` names, and the lines of its source are those of the table that `--lines` names. What the
+/// program writes, and what is shown, goes to `output`.
 ///
 /// The ending is Done where the session was ended by a command, or no line was left.
 pub fn debug_program<F: Images, C: Source, O: Sink, E: Sink>(

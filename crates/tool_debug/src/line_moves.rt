@@ -23,7 +23,7 @@ pub fn is_by_lines(way: Move) -> bool {
 
 /// The addresses that are passed at once, from one up to another: those of the row of the place where a machine stands,
 /// or of its function where no line is known of it.
-fn passed_at_once(session: &Session<'_>, machine: &Machine) -> (u64, u64) {
+fn passed_at_once(session: &Session, machine: &Machine) -> (u64, u64) {
     let pc = machine.core().pc();
     match place_at(session.rows, pc) {
         None => session.function(machine),
@@ -35,7 +35,7 @@ fn passed_at_once(session: &Session<'_>, machine: &Machine) -> (u64, u64) {
 }
 
 /// Whether the line of the place where a machine stands is known.
-fn has_line(session: &Session<'_>, machine: &Machine) -> bool {
+fn has_line(session: &Session, machine: &Machine) -> bool {
     place_at(session.rows, machine.core().pc()).is_some()
 }
 
@@ -48,16 +48,42 @@ fn is_of(place: &SourcePlace<'_>, line: &Option<SourcePlace<'_>>) -> bool {
 }
 
 /// Whether the line of the place where a machine stands is known, and isn't the one that it stood at.
-fn is_at_another(session: &Session<'_>, from: &Option<SourcePlace<'_>>, machine: &Machine) -> bool {
+fn is_at_another(session: &Session, from: &Option<SourcePlace<'_>>, machine: &Machine) -> bool {
     match place_at(session.rows, machine.core().pc()) {
         None => false,
         Some(place) => !is_of(&place, from),
     }
 }
 
+/// Goes on to the function that a call calls, if lines of that are known, and else behind the call: to an address, with
+/// the stack as it is.
+fn enter_call<O: Sink, E: Sink>(
+    session: &mut Session,
+    behind: u64,
+    sp: u64,
+    machine: &mut Machine,
+    trail: &mut Trail,
+    output: &mut O,
+    errors: &mut E,
+) -> Result<Reached, Broken>
+    requires walks { CanWalk session.old.input.now machine.old trail.old }
+    ensures stays { OnOk result (StaysOn session.old.input.now machine.old machine.new trail.old trail.new) }
+    ensures input { session.new.input.now ≡ session.old.input.now }
+    ensures met { IfOk result (MeetsStop machine.new) }
+{
+    let call = machine.core().pc();
+    let aim = Aim::Outside(call, call, false);
+    let reached = session.seek(aim, machine, trail, output, errors)?;
+    let stays = machine.core().pc() == behind || has_line(session, machine);
+    if stays || reached != Reached::Aim {
+        return Ok(reached);
+    }
+    session.seek(Aim::Above(behind, sp), machine, trail, output, errors)
+}
+
 /// Goes on behind a call; or, where calls are gone into, to the function that it calls, if lines of that are known.
 fn pass_call<O: Sink, E: Sink>(
-    session: &mut Session<'_>,
+    session: &mut Session,
     into: bool,
     machine: &mut Machine,
     trail: &mut Trail,
@@ -73,19 +99,14 @@ fn pass_call<O: Sink, E: Sink>(
     let behind = call.wrapping_add(4);
     let sp = machine.core().x_sp(Reg::at(31, 0));
     if into {
-        let aim = Aim::Outside(call, call, false);
-        let reached = session.seek(aim, machine, trail, output, errors)?;
-        let stays = machine.core().pc() == behind || has_line(session, machine);
-        if stays || reached != Reached::Aim {
-            return Ok(reached);
-        }
+        return enter_call(session, behind, sp, machine, trail, output, errors);
     }
     session.seek(Aim::Above(behind, sp), machine, trail, output, errors)
 }
 
 /// Goes on out of what is passed at once, to a call in it, or behind one.
 fn pass_row<O: Sink, E: Sink>(
-    session: &mut Session<'_>,
+    session: &mut Session,
     into: bool,
     machine: &mut Machine,
     trail: &mut Trail,
@@ -105,10 +126,10 @@ fn pass_row<O: Sink, E: Sink>(
     session.seek(aim, machine, trail, output, errors)
 }
 
-/// Goes on to the first place whose line is known and isn't the present one. Calls are passed with all that they do; or,
-/// where they are gone into, only those of functions of which no line is known.
+/// Goes on to the first place whose line is known and isn't the present one. Calls are passed with all that they do;
+/// or, where they are gone into, only those of functions of which no line is known.
 pub fn step_line<O: Sink, E: Sink>(
-    session: &mut Session<'_>,
+    session: &mut Session,
     into: bool,
     machine: &mut Machine,
     trail: &mut Trail,

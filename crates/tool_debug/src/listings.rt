@@ -21,7 +21,7 @@ fn address_or_here(machine: &Machine, place: Option<Place>) -> u64 {
 }
 
 /// Appends the line of an address, and up to where its code goes on.
-fn push_line_of(text: &mut String, session: &Session<'_>, address: u64) -> Result<(), AllocError> {
+fn push_line_of(text: &mut String, session: &Session, address: u64) -> Result<(), AllocError> {
     push_place(text, session.symbols, address)?;
     match place_at(session.rows, address) {
         None => text.push_str(" is of no line that is known\n"),
@@ -38,7 +38,7 @@ fn push_line_of(text: &mut String, session: &Session<'_>, address: u64) -> Resul
 /// Puts the line of a place, or of where the machine stands.
 pub fn put_line<O: Sink>(
     alloc: Global,
-    session: &Session<'_>,
+    session: &Session,
     place: Option<Place>,
     machine: &Machine,
     output: &mut O,
@@ -58,11 +58,11 @@ fn around(place: SourcePlace<'_>) -> SourcePlace<'_> {
 
 /// The line from which on lines are listed: around a place; or behind those that were listed last, or around where the
 /// machine stands. None where no line is known there.
-fn first_listed<'a>(
-    session: &Session<'a>,
+fn first_listed<'table>(
+    session: &Session<'_, '_, '_, 'table, '_, '_, '_>,
     place: Option<Place>,
     machine: &Machine,
-) -> Option<SourcePlace<'a>> {
+) -> Option<SourcePlace<'table>> {
     if place.is_none() && session.listed.is_some() {
         return session.listed;
     }
@@ -73,7 +73,7 @@ fn first_listed<'a>(
 }
 
 /// The number of the line where the machine stands, if it is of a file, and else 0.
-fn line_here(session: &Session<'_>, file: &str, machine: &Machine) -> u64 {
+fn line_here(session: &Session, file: &str, machine: &Machine) -> u64 {
     match place_at(session.rows, machine.core().pc()) {
         Some(place) if place.file == file => place.line,
         _ => 0,
@@ -94,10 +94,10 @@ fn put_no_lines<O: Sink>(
 }
 
 /// Puts the ten lines of a file from one on, and has the next listing go on behind them.
-fn put_lines<'a, O: Sink>(
+fn put_lines<'table, O: Sink>(
     alloc: Global,
-    session: &mut Session<'a>,
-    first: SourcePlace<'a>,
+    session: &mut Session<'_, '_, '_, 'table, '_, '_, '_>,
+    first: SourcePlace<'table>,
     machine: &Machine,
     output: &mut O,
 ) -> Result<(), Broken>
@@ -120,7 +120,7 @@ fn put_lines<'a, O: Sink>(
 /// machine stands.
 pub fn put_listing<O: Sink>(
     alloc: Global,
-    session: &mut Session<'_>,
+    session: &mut Session,
     place: Option<Place>,
     machine: &Machine,
     output: &mut O,

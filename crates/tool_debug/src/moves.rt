@@ -18,7 +18,7 @@ use std::alloc::Global;
 
 /// Takes one step with the whole of a call that it makes.
 fn next<O: Sink, E: Sink>(
-    session: &mut Session<'_>,
+    session: &mut Session,
     machine: &mut Machine,
     trail: &mut Trail,
     output: &mut O,
@@ -47,7 +47,7 @@ fn next<O: Sink, E: Sink>(
 
 /// Goes one step back, and where that is behind a return to the call that it belongs to.
 fn next_back<O: Sink, E: Sink>(
-    session: &mut Session<'_>,
+    session: &mut Session,
     machine: &mut Machine,
     trail: &mut Trail,
     output: &mut O,
@@ -78,7 +78,7 @@ fn goes_on(reached: &Reached, way: Move) -> bool {
 
 /// Takes a move once.
 fn once<O: Sink, E: Sink>(
-    session: &mut Session<'_>,
+    session: &mut Session,
     way: Move,
     machine: &mut Machine,
     trail: &mut Trail,
@@ -102,7 +102,7 @@ fn once<O: Sink, E: Sink>(
 
 /// Goes on or back so often.
 pub fn go<O: Sink, E: Sink>(
-    session: &mut Session<'_>,
+    session: &mut Session,
     way: Move,
     count: u64,
     machine: &mut Machine,
@@ -138,7 +138,7 @@ pub fn go<O: Sink, E: Sink>(
 /// False where there is none, and the machine is then as before.
 pub fn go_to_last_write<O: Sink, E: Sink>(
     alloc: Global,
-    session: &Session<'_>,
+    session: &Session,
     address: u64,
     count: u64,
     machine: &mut Machine,

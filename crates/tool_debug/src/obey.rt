@@ -30,7 +30,7 @@ use std::alloc::{AllocError, Global};
 /// Adds a break or watch, and puts it.
 fn add<O: Sink>(
     alloc: Global,
-    session: &mut Session<'_>,
+    session: &mut Session,
     what: What,
     once: bool,
     address: u64,
@@ -56,7 +56,7 @@ fn add<O: Sink>(
 
 /// Changes a break or watch, or all.
 fn change<O: Sink>(
-    session: &mut Session<'_>,
+    session: &mut Session,
     way: Change,
     number: Option<u64>,
     output: &mut O,
@@ -77,7 +77,7 @@ fn change<O: Sink>(
 
 /// Lets a break or watch pass so many stops.
 fn ignore<O: Sink>(
-    session: &mut Session<'_>,
+    session: &mut Session,
     number: u64,
     count: u64,
     output: &mut O,
@@ -123,7 +123,7 @@ fn put_thing<O: Sink>(
 /// Puts the address of a place.
 fn put_place<O: Sink>(
     alloc: Global,
-    session: &Session<'_>,
+    session: &Session,
     notation: Option<Notation>,
     place: Place,
     machine: &Machine,
@@ -142,7 +142,7 @@ fn put_place<O: Sink>(
 /// Puts memory.
 fn put_memory<O: Sink>(
     alloc: Global,
-    session: &Session<'_>,
+    session: &Session,
     format: Format,
     place: Place,
     machine: &Machine,
@@ -162,7 +162,7 @@ fn put_memory<O: Sink>(
 /// Puts the instructions of a function.
 fn put_disassembly<O: Sink>(
     alloc: Global,
-    session: &Session<'_>,
+    session: &Session,
     place: Option<Place>,
     machine: &Machine,
     output: &mut O,
@@ -179,7 +179,7 @@ fn put_disassembly<O: Sink>(
 /// Puts the calls that led here.
 fn put_backtrace<O: Sink>(
     alloc: Global,
-    session: &Session<'_>,
+    session: &Session,
     machine: &Machine,
     output: &mut O,
 ) -> Result<(), Broken> {
@@ -189,7 +189,7 @@ fn put_backtrace<O: Sink>(
 }
 
 /// Puts the breaks and watches.
-fn put_points<O: Sink>(alloc: Global, session: &Session<'_>, output: &mut O) -> Result<(), Broken> {
+fn put_points<O: Sink>(alloc: Global, session: &Session, output: &mut O) -> Result<(), Broken> {
     let mut text = String::new(alloc);
     push_points(&mut text, session.symbols, &session.points)?;
     put(text.as_str(), output)
@@ -204,14 +204,24 @@ fn put_when<O: Sink>(alloc: Global, machine: &Machine, output: &mut O) -> Result
     put(text.as_str(), output)
 }
 
+/// Appends a register, if there is one: a scalar one by its own arm, which the proof of `push` wants. Err is want of
+/// memory.
+fn push_column(things: &mut Vec<Thing>, found: &Option<Thing>) -> Result<(), AllocError> {
+    match found {
+        Some(Thing::Scalar(register)) => things.push(Thing::Scalar(*register))?,
+        Some(thing) => things.push(*thing)?,
+        None => {}
+    }
+    Ok(())
+}
+
 /// The registers that the words behind the first name. Err is want of memory.
 fn columns(alloc: Global, words: &[&str], count: usize) -> Result<Vec<Thing>, AllocError> {
     let mut things = Vec::new(alloc);
     'words: for k in 0..count {
         if k + 1 < words.len() {
-            if let Some(thing) = vector_of(words[k + 1]) {
-                things.push(thing)?;
-            }
+            let found = vector_of(words[k + 1]);
+            push_column(&mut things, &found)?;
         }
     }
     Ok(things)
@@ -220,7 +230,7 @@ fn columns(alloc: Global, words: &[&str], count: usize) -> Result<Vec<Thing>, Al
 /// Puts lanes beside each other.
 fn put_lanes<O: Sink, E: Sink>(
     alloc: Global,
-    session: &Session<'_>,
+    session: &Session,
     words: &[&str],
     count: usize,
     size: Option<Esize>,
@@ -254,7 +264,7 @@ fn put_help<O: Sink>(alloc: Global, verb: Option<Verb>, output: &mut O) -> Resul
 /// Goes back to the last write to so many bytes from an address on, and puts where that is.
 fn last_write<O: Sink, E: Sink>(
     alloc: Global,
-    session: &Session<'_>,
+    session: &Session,
     address: u64,
     count: u64,
     machine: &mut Machine,
@@ -281,7 +291,7 @@ fn last_write<O: Sink, E: Sink>(
 
 /// Obeys a command that moves the machine: to what it reached.
 fn reach<O: Sink, E: Sink>(
-    session: &mut Session<'_>,
+    session: &mut Session,
     command: Command,
     machine: &mut Machine,
     trail: &mut Trail,
@@ -322,7 +332,7 @@ fn reach<O: Sink, E: Sink>(
 /// Obeys a command that moves the machine, and puts where it stands then.
 fn move_by<O: Sink, E: Sink>(
     alloc: Global,
-    session: &mut Session<'_>,
+    session: &mut Session,
     command: Command,
     machine: &mut Machine,
     trail: &mut Trail,
@@ -340,7 +350,7 @@ fn move_by<O: Sink, E: Sink>(
 /// Obeys a command that shows something of the machine as it is.
 fn show_by<O: Sink>(
     alloc: Global,
-    session: &Session<'_>,
+    session: &Session,
     command: Command,
     machine: &Machine,
     output: &mut O,
@@ -374,7 +384,7 @@ fn show_by<O: Sink>(
 /// Obeys a command that adds or changes breaks and watches.
 fn point_by<O: Sink>(
     alloc: Global,
-    session: &mut Session<'_>,
+    session: &mut Session,
     command: Command,
     machine: &Machine,
     output: &mut O,
@@ -413,7 +423,7 @@ fn point_by<O: Sink>(
 /// Obeys a command that may move the machine, or shows what its last step changed.
 fn walk_by<O: Sink, E: Sink>(
     alloc: Global,
-    session: &mut Session<'_>,
+    session: &mut Session,
     words: &[&str],
     command: Command,
     machine: &mut Machine,
@@ -440,7 +450,7 @@ fn walk_by<O: Sink, E: Sink>(
 }
 
 /// Whether a command goes on by lines of the source, of which none is known.
-fn lacks_lines(session: &Session<'_>, command: &Command) -> bool {
+fn lacks_lines(session: &Session, command: &Command) -> bool {
     match command {
         Command::Go(way, _) => session.rows.is_empty() && is_by_lines(*way),
         _ => false,
@@ -451,7 +461,7 @@ fn lacks_lines(session: &Session<'_>, command: &Command) -> bool {
 /// known. Listings begin anew behind it.
 fn walk_or_refuse<O: Sink, E: Sink>(
     alloc: Global,
-    session: &mut Session<'_>,
+    session: &mut Session,
     words: &[&str],
     command: Command,
     machine: &mut Machine,
@@ -478,7 +488,7 @@ fn walk_or_refuse<O: Sink, E: Sink>(
 /// Obeys a search.
 fn find_by<O: Sink>(
     alloc: Global,
-    session: &Session<'_>,
+    session: &Session,
     words: &[&str],
     command: Command,
     machine: &Machine,
@@ -526,7 +536,7 @@ fn kind_of(command: &Command) -> Kind {
 /// Obeys a command. False where it ends the session.
 pub fn obey<O: Sink, E: Sink>(
     alloc: Global,
-    session: &mut Session<'_>,
+    session: &mut Session,
     words: &[&str],
     command: Command,
     machine: &mut Machine,

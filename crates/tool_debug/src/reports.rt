@@ -30,7 +30,7 @@ fn accesses_of(alloc: Global, machine: &Machine) -> Result<Vec<Access>, AllocErr
 /// the machine has ended. The machine is then as before, and its accesses are those of the step.
 pub fn before_step<O: Sink, E: Sink>(
     alloc: Global,
-    session: &Session<'_>,
+    session: &Session,
     machine: &mut Machine,
     trail: &mut Trail,
     output: &mut O,
@@ -55,7 +55,7 @@ pub fn before_step<O: Sink, E: Sink>(
 /// Puts what the last step changed.
 fn put_changes<O: Sink, E: Sink>(
     alloc: Global,
-    session: &Session<'_>,
+    session: &Session,
     asked: Option<(u64, u64)>,
     machine: &mut Machine,
     trail: &mut Trail,
@@ -76,7 +76,7 @@ fn put_changes<O: Sink, E: Sink>(
 /// Puts where the machine stands.
 pub fn put_where<O: Sink>(
     alloc: Global,
-    session: &Session<'_>,
+    session: &Session,
     machine: &Machine,
     output: &mut O,
 ) -> Result<(), Broken> {
@@ -97,7 +97,7 @@ pub fn put_where<O: Sink>(
 /// Puts why a move ended where it did.
 fn put_reached<O: Sink>(
     alloc: Global,
-    session: &Session<'_>,
+    session: &Session,
     reached: &Reached,
     machine: &Machine,
     output: &mut O,
@@ -130,7 +130,7 @@ fn asked_of(reached: &Reached) -> Option<(u64, u64)> {
 /// Puts where a move ended, and what the last step changed.
 pub fn put_stop<O: Sink, E: Sink>(
     alloc: Global,
-    session: &Session<'_>,
+    session: &Session,
     reached: Reached,
     machine: &mut Machine,
     trail: &mut Trail,

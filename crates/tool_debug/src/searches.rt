@@ -42,7 +42,7 @@ fn push_quoted_bytes(bytes: &mut Vec<u8>, word: &str) -> Result<(), AllocError> 
 /// Appends the bytes of a value: of a text in quotes its own, and of a place so many of its address.
 fn push_value_bytes(
     bytes: &mut Vec<u8>,
-    session: &Session<'_>,
+    session: &Session,
     word: &str,
     count: u32,
     machine: &Machine,
@@ -59,7 +59,7 @@ fn push_value_bytes(
 /// The bytes of so many values, the words behind the extent. Err is want of memory.
 fn sought_bytes(
     alloc: Global,
-    session: &Session<'_>,
+    session: &Session,
     words: &[&str],
     count: usize,
     unit: u32,
@@ -88,7 +88,7 @@ fn length_of(extent: Extent, first: u64, machine: &Machine) -> u64 {
 /// want of memory.
 fn push_found(
     text: &mut String,
-    session: &Session<'_>,
+    session: &Session,
     bytes: &[u8],
     first: u64,
     length: u64,
@@ -126,7 +126,7 @@ fn push_found(
 /// Puts where values stand in memory one behind the other, from a place on.
 pub fn put_found<O: Sink>(
     alloc: Global,
-    session: &Session<'_>,
+    session: &Session,
     words: &[&str],
     format: Format,
     first: u64,

@@ -17,14 +17,14 @@ use source_lines::{Row, SourceFile, SourcePlace};
 
 /// The state of a session beside its machine.
 #[derive(Drop)]
-pub struct Session<'a> {
+pub struct Session<'symbols, 'names, 'rows, 'table, 'sources, 'texts, 'input> {
     /// The symbols of the program's file.
-    pub symbols: &'a [Symbol<'a>],
+    pub symbols: &'symbols [Symbol<'names>],
     /// The lines of the program's source by their addresses, and the files of the source that are there.
-    pub rows: &'a [Row<'a>],
-    pub sources: &'a [SourceFile<'a>],
+    pub rows: &'rows [Row<'table>],
+    pub sources: &'sources [SourceFile<'texts>],
     /// The program's whole input.
-    pub input: &'a [u8],
+    pub input: &'input [u8],
     /// The greatest number of steps in all.
     pub budget: u64,
     /// How many steps a command goes at most.
@@ -33,7 +33,7 @@ pub struct Session<'a> {
     /// Whether a prompt is shown before each line.
     pub prompted: bool,
     /// Which line a listing goes on from, where one was shown since the machine moved.
-    pub listed: Option<SourcePlace<'a>>,
+    pub listed: Option<SourcePlace<'table>>,
 }
 
 /// Where a move ended.
@@ -59,7 +59,7 @@ fn point_at(points: &[Point], place: usize) -> Point
     points[place]
 }
 
-impl<'a> Session<'a> {
+impl Session<'_, '_, '_, '_, '_, '_, '_> {
     /// How many steps a command counts at most, in all.
     pub fn limit(&self, machine: &Machine) -> u64
         ensures { result ≡ limit machine.now.parts.steps self.now.slice self.now.budget }

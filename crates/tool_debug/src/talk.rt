@@ -53,7 +53,7 @@ fn refuse<O: Sink>(
 /// Obeys a line, or says why it is no command.
 fn obey_line<O: Sink, E: Sink>(
     alloc: Global,
-    session: &mut Session<'_>,
+    session: &mut Session,
     line: &str,
     machine: &mut Machine,
     trail: &mut Trail,
@@ -86,7 +86,7 @@ fn obey_line<O: Sink, E: Sink>(
 /// Obeys the lines of a source one after the other, each but one that names a file. False where one ends the session.
 fn obey_lines<C: Source, O: Sink, E: Sink>(
     alloc: Global,
-    session: &mut Session<'_>,
+    session: &mut Session,
     commands: &mut C,
     machine: &mut Machine,
     trail: &mut Trail,
@@ -130,7 +130,7 @@ fn commands_of<F: Images>(
 /// Obeys the lines of the file that the second word of a line names. False where one ends the session.
 fn obey_file<F: Images, O: Sink, E: Sink>(
     alloc: Global,
-    session: &mut Session<'_>,
+    session: &mut Session,
     line: &str,
     machine: &mut Machine,
     trail: &mut Trail,
@@ -157,7 +157,7 @@ fn obey_file<F: Images, O: Sink, E: Sink>(
 /// Obeys a line, and the lines of the file that it names. False where one ends the session.
 fn obey_all<F: Images, O: Sink, E: Sink>(
     alloc: Global,
-    session: &mut Session<'_>,
+    session: &mut Session,
     line: &str,
     machine: &mut Machine,
     trail: &mut Trail,
@@ -179,7 +179,7 @@ fn obey_all<F: Images, O: Sink, E: Sink>(
 /// Shows the prompt, where one is shown, and takes the next line.
 fn ask<C: Source, O: Sink>(
     alloc: Global,
-    session: &Session<'_>,
+    session: &Session,
     commands: &mut C,
     output: &mut O,
 ) -> Result<Option<String>, Broken> {
@@ -197,7 +197,7 @@ fn ask<C: Source, O: Sink>(
 /// wasn't empty.
 pub fn talk<F: Images, C: Source, O: Sink, E: Sink>(
     alloc: Global,
-    session: &mut Session<'_>,
+    session: &mut Session,
     machine: &mut Machine,
     trail: &mut Trail,
     files: &mut F,

@@ -6,10 +6,13 @@ pub rows-init : goal.rows-init
 rows-init g c = record { stays = stays_same; input = refl }
 
 pub pass_row-requires : goal.pass_row-requires
-pass_row-requires g c = walks_in (sym c.rows.invariant.input) (still_on c.rows.invariant.stays c.requires.walks)
+pass_row-requires g c = record { walks = walks_in (sym c.rows.invariant.input) (still_on c.rows.invariant.stays c.requires.walks) }
 
 pub rows-preserved : goal.rows-preserved
 rows-preserved g c = record {
-  stays = stays_then c.rows.invariant.stays (stays_in c.rows.invariant.input c.in_ok-pass_row.ensures.stays);
-  input = c.in_ok-pass_row.ensures.input ∙ c.rows.invariant.input;
+  stays = stays_then c.rows.invariant.stays (stays_in c.rows.invariant.input c.in_ok-reached.ensures.stays);
+  input = c.in_ok-reached.ensures.input ∙ c.rows.invariant.input;
 }
+
+pub returns-then-ne-clause-stays : goal.returns-then-ne-clause-stays
+returns-then-ne-clause-stays g c = stays_then c.rows.invariant.stays (stays_in c.rows.invariant.input c.in_ok-reached.ensures.stays)

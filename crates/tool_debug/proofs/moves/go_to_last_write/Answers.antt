@@ -3,10 +3,10 @@ use Rattle.tool_debug.proofs.Staying.{stays_by, stays_then, still_on}
 use Rattle.tool_debug.proofs.moves.go_to_last_write.Goals as goal
 
 pub returns-then-backward : goal.returns-then-backward
-returns-then-backward g c = stays_by refl (c.backward.ensures.does None None)
+returns-then-backward g c = record { stays = stays_by refl (c.backward.ensures.does None None) }
 
 pub go-requires : goal.go-requires
-go-requires g c = still_on (stays_by refl (c.backward.ensures.does None None)) c.requires.walks
+go-requires g c = record { walks = still_on (stays_by refl (c.backward.ensures.does None None)) c.requires.walks }
 
 pub returns : goal.returns
-returns g c = stays_then (stays_by refl (c.backward.ensures.does None None)) c.in_ok-go.ensures.stays
+returns g c = record { stays = stays_then (stays_by refl (c.backward.ensures.does None None)) c.in_ok-go.ensures.stays }

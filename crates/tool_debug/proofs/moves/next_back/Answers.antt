@@ -2,7 +2,7 @@ use Rattle.tool_debug.proofs.Staying.{stays_then, still_on}
 use Rattle.tool_debug.proofs.moves.next_back.Goals as goal
 
 pub seek_back-requires : goal.seek_back-requires
-seek_back-requires g c = still_on c.in_ok-go.ensures.stays c.requires.walks
+seek_back-requires g c = record { walks = still_on c.in_ok-go.ensures.stays c.requires.walks }
 
 pub returns-then-is_return : goal.returns-then-is_return
 returns-then-is_return g c = record {

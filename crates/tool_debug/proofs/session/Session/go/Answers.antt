@@ -1,8 +1,6 @@
-use Rattle.std.proofs.Common.{◌≡◌, ℕ, min, sym, ap, ◌∙◌, is_err}
-use Rattle.dbg_model.specs.Session.{Course}
+use Rattle.std.proofs.Common.{◌≡◌, ℕ, min, sym, ap, is_err}
 use Rattle.dbg_back.specs.Ends.{is_fault}
 use Rattle.dbg_back.proofs.Doing.{does_as, does_when}
-use Rattle.emu_model.specs.State.{State}
 use Rattle.debug_walk.specs.Walks.{at_step}
 use Rattle.tool_debug.proofs.Staying.{ok_stays}
 use Rattle.tool_debug.proofs.session.Session.go.Goals as goal

@@ -6,7 +6,7 @@ pub seek-init : goal.seek-init
 seek-init c = record { stays = stays_same; input = refl }
 
 pub seek_back_once-requires : goal.seek_back_once-requires
-seek_back_once-requires c = walks_in (sym c.seek.invariant.input) (still_on c.seek.invariant.stays c.requires.walks)
+seek_back_once-requires c = record { walks = walks_in (sym c.seek.invariant.input) (still_on c.seek.invariant.stays c.requires.walks) }
 
 pub seek-preserved : goal.seek-preserved
 seek-preserved c = record {

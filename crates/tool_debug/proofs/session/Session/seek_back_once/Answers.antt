@@ -1,4 +1,4 @@
-use Rattle.std.proofs.Common.{refl, Option, None, ℕ, List}
+use Rattle.std.proofs.Common.{refl, None}
 use Rattle.tool_debug.proofs.Staying.{stays_by}
 use Rattle.tool_debug.proofs.session.Session.seek_back_once.Goals as goal
 
