@@ -92,8 +92,9 @@ line_places (name ∷ words) =
     (line_either count (bytes_eq name (codes "family")) _ _ tt
     (line_either count (bytes_eq name (codes "count")) _ _ (omega arith)
     (line_either count (bytes_eq name (codes "trace")) _ _ (omega arith)
+    (line_either count (bytes_eq name (codes "debug")) _ _ (omega arith)
     (line_either count (bytes_eq name (codes "run")) _ _
-    (after_within count (read_words nothing_seen 1 words) (words_within count 1 words (Ok nothing_seen) (omega arith) (nothing_within count))) tt)))))
+    (after_within count (read_words nothing_seen 1 words) (words_within count 1 words (Ok nothing_seen) (omega arith) (nothing_within count))) tt))))))
 
 -- of words that are strings
 pub string_places : {T : Type 0} (bytes : T → List ℕ) (words : List T) (r : Result ToolLine ToolFault) → r ≡ tool_line (map bytes words) → IfOk r (HasPlaces (length words))
