@@ -9,10 +9,9 @@ ghost use Rattle.emu_system.specs.ArgumentLimits.{AreArguments};
 ghost use Rattle.command_lines.specs.LineLimits.{HasArguments, HasLimit, HasPlaces};
 ghost use Rattle.command_lines.specs.Outcome.{program_arguments};
 
-use crate::ends::Broken;
-use crate::session::Session;
 use crate::talk::talk;
 use command_lines::{Ending, Line, line_of_words, word};
+use debug_moves::{Broken, Session};
 use debug_options::{
     FILE_LIMIT, Given, miss_file, read_sources, refuse_image, refuse_long_file, refuse_table,
     refuse_words, run_words, seen_sources,

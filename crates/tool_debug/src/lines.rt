@@ -1,7 +1,7 @@
 //! The lines of a source, one at a time, so that what stands before each can be shown before it is read.
 ghost use Rattle.std.specs.Prelude.{◌≡◌, ◌++◌, ◌∷◌, [], OnOk};
 
-use crate::ends::Broken;
+use debug_moves::Broken;
 use io_gate::Source;
 use std::alloc::{AllocError, Global};
 

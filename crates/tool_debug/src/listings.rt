@@ -1,9 +1,8 @@
 //! What is put of the program's source.
 ghost use Rattle.std.specs.Prelude.{◌≡◌};
 
-use crate::ends::Broken;
 use crate::reports::put;
-use crate::session::Session;
+use debug_moves::{Broken, Session};
 use debug_places::Place;
 use debug_shows::push_place;
 use debug_values::address_of;

@@ -1,17 +1,14 @@
 //! A command obeyed.
 ghost use Rattle.std.specs.Prelude.{◌≡◌, IfOk, OnOk};
 ghost use Rattle.dbg_back.specs.Walks.{CanWalk};
+ghost use Rattle.debug_moves.specs.Sessions.{MeetsStop};
 ghost use Rattle.debug_walk.specs.Walks.{StaysOn};
-ghost use Rattle.tool_debug.specs.Sessions.{MeetsStop};
 
-use crate::ends::Broken;
-use crate::line_moves::is_by_lines;
 use crate::listings::{put_line, put_listing};
-use crate::moves::{go, go_to_last_write};
 use crate::reports::{before_step, put, put_stop, put_where};
 use crate::searches::put_found;
-use crate::session::{Reached, Session};
 use dbg_core::{Command as Shown, show};
+use debug_moves::{Broken, Reached, Session, go, go_to_last_write, is_by_lines};
 use debug_names::{Register, Thing, Verb, vector_of};
 use debug_places::{Format, Notation, Place};
 use debug_points::{Aim, What};

@@ -3,9 +3,8 @@ ghost use Rattle.std.specs.Prelude.{◌≡◌, OnOk};
 ghost use Rattle.dbg_back.specs.Walks.{CanWalk};
 ghost use Rattle.debug_walk.specs.Walks.{StaysOn};
 
-use crate::ends::Broken;
-use crate::session::{Reached, Session};
 use dbg_core::put_ending;
+use debug_moves::{Broken, Reached, Session};
 use debug_points::What;
 use debug_shows::{Before, push_changes, push_met, push_where};
 use debug_walk::Trail;

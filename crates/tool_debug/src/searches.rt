@@ -1,8 +1,7 @@
 //! What is found in memory.
 
-use crate::ends::Broken;
 use crate::reports::put;
-use crate::session::Session;
+use debug_moves::{Broken, Session};
 use debug_places::{Format, place_of};
 use debug_shows::push_place;
 use debug_texts::push_decimal;

@@ -3,11 +3,10 @@ ghost use Rattle.std.specs.Prelude.{◌≡◌, OnOk};
 ghost use Rattle.dbg_back.specs.Walks.{CanWalk};
 ghost use Rattle.debug_walk.specs.Walks.{StaysOn};
 
-use crate::ends::Broken;
 use crate::lines::next_line;
 use crate::obey::obey;
 use crate::reports::{put, put_where};
-use crate::session::Session;
+use debug_moves::{Broken, Session};
 use debug_places::Refusal;
 use debug_shows::push_refusal;
 use debug_walk::Trail;

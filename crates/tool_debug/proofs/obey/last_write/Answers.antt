@@ -1,5 +1,5 @@
 use Rattle.std.proofs.Common.{refl}
-use Rattle.tool_debug.proofs.Staying.{ok_then, still_on}
+use Rattle.debug_moves.proofs.Staying.{ok_then, still_on}
 use Rattle.tool_debug.proofs.obey.last_write.Goals as goal
 
 pub put_stop-requires : goal.put_stop-requires

@@ -1,5 +1,5 @@
 use Rattle.std.proofs.Common.{sym}
-use Rattle.tool_debug.proofs.Staying.{ok_then, still_on, walks_in}
+use Rattle.debug_moves.proofs.Staying.{ok_then, still_on, walks_in}
 use Rattle.tool_debug.proofs.obey.move_by.Goals as goal
 
 pub put_stop-requires : goal.put_stop-requires

@@ -1,5 +1,5 @@
 use Rattle.std.proofs.Common.{refl}
-use Rattle.tool_debug.proofs.Staying.{ok_then, still_on}
+use Rattle.debug_moves.proofs.Staying.{ok_then, still_on}
 use Rattle.tool_debug.proofs.obey.reach.Goals as goal
 
 pub seek-requires : goal.seek-requires

@@ -1,4 +1,4 @@
-use Rattle.tool_debug.proofs.Staying.{stays_then, still_on}
+use Rattle.debug_moves.proofs.Staying.{stays_then, still_on}
 use Rattle.tool_debug.proofs.reports.before_step.Goals as goal
 
 pub go-requires-2 : goal.go-requires-2

@@ -1,5 +1,5 @@
 use Rattle.std.proofs.Common.{refl, sym, ◌∙◌}
-use Rattle.tool_debug.proofs.Staying.{stays_in, stays_same, stays_then, still_on, walks_in}
+use Rattle.debug_moves.proofs.Staying.{stays_in, stays_same, stays_then, still_on, walks_in}
 use Rattle.tool_debug.proofs.talk.obey_lines.Goals as goal
 
 pub lines-init : goal.lines-init
