@@ -57,13 +57,19 @@ send '' Enter
 shows '^step 10004 '
 send C-d
 shows '^status 0'
-send "$tool debug $here/debugged/no_end.elf --vl 128" Enter
-send 'set slice 4000000000' Enter
-send 'continue' Enter
-sleep 1
-send C-c
-send 'echo the terminal answers' Enter
-shows '^the terminal answers'
+# Ctrl-C while it runs: the terminal is as it was before.
+breaks_off() {
+    send "clear; stty -g >$scratch/before; $* $here/debugged/no_end.elf --vl 128" Enter
+    shows '^step 0 '
+    send 'set slice 4000000000' Enter
+    send 'continue' Enter
+    sleep 1
+    send C-c
+    shows '^shell> *$'
+    send "stty -g >$scratch/behind; cmp $scratch/before $scratch/behind && echo the terminal answers" Enter
+    shows '^the terminal answers'
+}
+breaks_off "$tool debug"
 if command -v llvm-dwarfdump >/dev/null || command -v objdump >/dev/null; then
     send "export SVEMU_TOOL=$tool RLWRAP_HOME=$scratch" Enter
     send "clear; tools/svemu-debug tests/debugged/steps.elf --vl 128; echo status \$?" Enter
@@ -89,6 +95,7 @@ if command -v llvm-dwarfdump >/dev/null || command -v objdump >/dev/null; then
     shows '^  tests/debugged/steps\.c:21 '
     send C-d
     shows '^status 0'
+    breaks_off tools/svemu-debug
 fi
 echo "$passed passed, $failed failed"
 [ "$failed" -eq 0 ]
