@@ -65,7 +65,8 @@ breaks_off() {
     send 'continue' Enter
     sleep 1
     send C-c
-    shows '^shell> *$'
+    # the terminal itself shows ^C before it, on the same line or on one of its own
+    shows '^\(\^C\)*shell> *$'
     send "stty -g >$scratch/behind; cmp $scratch/before $scratch/behind && echo the terminal answers" Enter
     shows '^the terminal answers'
 }
