@@ -31,7 +31,8 @@ TASKS = [
         r'^  stored 0x[0-9a-f]+ 4: 0x3e8, was 0x3e$', r'^#0  0x[0-9a-f]+ <spoil\+12>$', r'^x30 0x[0-9a-f]+ <_start\+16>$',
     ]),
     ('null_origin', ['continue', 'reverse-stepi 3', 'last-write second+8 8'], [
-        r'^trap read 0x0000000000000000 at ', r'<walk\+12>  ldr x3', r'<walk\+24>', r'^  by 0x[0-9a-f]+ <walk\+20>  ldr x1', r'^  by 0x[0-9a-f]+ <unlink\+4>  str ',
+        r'^trap read 0x0000000000000000 at ', r'<walk\+12>  ldr x3', r'<walk\+24>',
+        r'^  by 0x[0-9a-f]+ <walk\+20>  ldr x1', r'^  by 0x[0-9a-f]+ <unlink\+4>  str ',
         r'^  stored 0x[0-9a-f]+ 8: 0x0, was 0x[1-9a-f]',
     ]),
     ('past_end', ['watch limit 4', 'c', 'print x3', 'print x4', 'rc', 'c', 'c', 'rc'], [
