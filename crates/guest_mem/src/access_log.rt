@@ -11,6 +11,9 @@ use emu_model::access::Access;
 use std::alloc::{AllocError, Global};
 use std::marker::Model;
 
+/// The most bytes that each access of a run has.
+const MOST_BYTES: u32 = 255;
+
 /// The accesses of one step, in order, lower first. 1,024 is the most that an instruction makes (`ld4b` at 2,048 bits).
 /// Those of a run that comes first take a few stores whatever their number, and each other one has a cell. Contracts
 /// see it as they see an `ArrayVec`.
@@ -19,10 +22,10 @@ pub struct AccessLog {
     cells: [Access; 1024],
     // a run of accesses before those in the cells: so many, of so many bytes each, one behind the other from here on
     base: u64,
-    bytes: u32,
+    // these and how many are in the cells are one word of the host, so that one store sets or empties them all
+    bytes: u8,
     write: bool,
-    count: u32,
-    // how many are in the cells; beside the run's number, so that one store empties both
+    count: u16,
     len: u32,
 }
 
@@ -72,6 +75,8 @@ impl AccessLog {
         ensures { self.new.items ≡ [] }
     {
         let _ = &self.cells;
+        self.bytes = 0;
+        self.write = false;
         self.count = 0;
         self.len = 0;
     }
@@ -95,12 +100,17 @@ impl AccessLog {
         ensures items { self.new.items ≡ each count
             (λ i. record { address = address (base + i * n); bytes = n; write = write }) }
     {
-        let _ = &self.cells;
-        self.base = base;
-        self.bytes = n;
-        self.write = write;
-        self.count = count;
-        self.len = 0;
+        if n <= MOST_BYTES {
+            let _ = &self.cells;
+            self.base = base;
+            self.bytes = n as u8;
+            self.write = write;
+            self.count = count as u16;
+            self.len = 0;
+        } else {
+            self.clear();
+            self.push_cells(base, n, count, write);
+        }
     }
 
     /// Appends so many accesses of n bytes each, one behind the other. There must be room.
@@ -111,21 +121,33 @@ impl AccessLog {
             (λ i. record { address = address (base + i * n); bytes = n; write = write }) }
         ensures len { array_vec_len self.new ≡ array_vec_len self.old + count }
     {
-        if self.count + self.len == 0 {
+        let len = u32::from(self.count) + self.len;
+        if n <= MOST_BYTES && len == 0 {
             self.base = base;
-            self.bytes = n;
+            self.bytes = n as u8;
             self.write = write;
-            self.count = count;
+            self.count = count as u16;
         } else {
-            let first = self.len as usize;
-            fill(
-                &mut self.cells[first..first + count as usize],
-                base,
-                n,
-                write,
-            );
-            self.len += count;
+            self.push_cells(base, n, count, write);
         }
+    }
+
+    /// The same, with a cell for each.
+    #[inline(always)]
+    fn push_cells(&mut self, base: u64, n: u32, count: u32, write: bool)
+        requires { array_vec_len self.old + count ≤ 1024 }
+        ensures items { self.new.items ≡ self.old.items ++ each count
+            (λ i. record { address = address (base + i * n); bytes = n; write = write }) }
+        ensures len { array_vec_len self.new ≡ array_vec_len self.old + count }
+    {
+        let first = self.len as usize;
+        fill(
+            &mut self.cells[first..first + count as usize],
+            base,
+            n,
+            write,
+        );
+        self.len += count;
     }
 }
 
@@ -200,8 +222,8 @@ impl AccessList {
         put_run(
             &mut self.accesses,
             log.base,
-            log.bytes,
-            log.count,
+            u32::from(log.bytes),
+            u32::from(log.count),
             log.write,
         );
         put_all(&mut self.accesses, &log.cells[..log.len as usize]);

@@ -86,6 +86,7 @@ pub fn look_up(list: &PageList, cache: &mut Cache, page: u64) -> Option<usize>
 }
 
 /// The same where the line of the cache has another page.
+#[cold]
 #[inline(never)]
 fn search(list: &PageList, cache: &mut Cache, page: u64) -> Option<usize>
     requires ascending { IsAscending list.now.pages }
@@ -116,6 +117,7 @@ pub fn allows(rights: Rights, kind: Kind) -> bool
 }
 
 /// The place of a page that has the right for `kind`. The page that is found is kept at hand for it.
+#[cold]
 #[inline(never)]
 pub fn search_for(list: &mut PageList, cache: &mut Cache, page: u64, kind: Kind) -> Option<usize>
     requires ascending { IsAscending list.old.pages }
@@ -153,6 +155,7 @@ pub fn mapped_place(list: &PageList, cache: &mut Cache, page: u64) -> usize
 }
 
 /// The same. The page is kept at hand to be written, if it may be.
+#[cold]
 #[inline(never)]
 pub fn place_to_write(list: &mut PageList, cache: &mut Cache, page: u64) -> usize
     requires ascending { IsAscending list.old.pages }
@@ -230,6 +233,7 @@ pub fn store_page(
 }
 
 /// The same where the page isn't at hand. It is from now on, if it has a frame of its own already.
+#[cold]
 #[inline(never)]
 fn store_found(list: &mut PageList, cache: &mut Cache, page: u64, at: usize, bytes: &[u8]) -> bool
     requires ascending { IsAscending list.old.pages }

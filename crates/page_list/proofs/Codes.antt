@@ -1,5 +1,6 @@
 -- The pages at hand keep their places where a page gets a frame, and their bytes are those of their entries.
 use Rattle.std.proofs.Common.{◌≡◌, ◌<◌, ◌+◌, ◌==◌, ◌&&◌, ℕ, Bool, true, false, cond, not, List, length, set, get_or, replicate, Option, Some, None, IfSome, refl, sym, ap, ◌∙◌, subst, arith, inl, inr}
+use Rattle.std.specs.Prelude.{is_none, unwrap_or}
 use Rattle.std.proofs.Math.ListN.{length-set}
 use Rattle.std.proofs.lemmas.Bool.{cases_eq, eqb-true, eqb-false, eq-eqb, false≢true}
 use Rattle.std.proofs.lemmas.List.{length-map, get_or-replicate, get_or-set_same, get_or-set_other}
@@ -16,7 +17,7 @@ use Rattle.page_list.specs.declared.code.CodePage.{CodePage}
 use Rattle.page_list.specs.declared.hand.Hand.{Hand}
 use Rattle.page_list.specs.declared.hand.Lines.{Lines}
 use Rattle.page_list.specs.Entries.{AtHand, Entry, IsGiven, IsGivenAt, empty_lines, entry_at, is_held, line_of, lines, no_page, nothing_at_hand}
-use Rattle.page_list.specs.Slots.{AreAtHand, AreHeld, AreLines, AreOwn, IsCode, IsHeldAt, bytes_in, code_after, entry_in, entries_in, frame_at, frame_of, hand_of, is_own, is_sole, lines_after, no_slot, one, slot_at, with_line, without_line}
+use Rattle.page_list.specs.Slots.{AreAtHand, AreHeld, AreLines, AreOwn, IsCode, IsHeldAt, bytes_in, code_after, entry_in, entries_in, frame_at, frame_of, hand_of, is_own, is_sole, line_frame, lines_after, no_slot, one, slot_at, with_line, without_line}
 use Rattle.page_list.proofs.Held.{entry_is, frame_is_held, right_at, slot_there}
 
 both : (p q : Bool) → p ≡ true → q ≡ true → (p && q) ≡ true
@@ -29,6 +30,24 @@ first_of false q e = absurd (false≢true e)
 second_of : (p q : Bool) → (p && q) ≡ true → q ≡ true
 second_of true q e = e
 second_of false q e = absurd (false≢true e)
+
+-- the frame in a line that is set, and that in another line
+frame_of_line : (frame : Option ℕ) (bare : Bool) (n : ℕ) → bare ≡ is_none frame → n ≡ unwrap_or frame 0 → cond bare None (Some n) ≡ frame
+frame_of_line None bare n is e = ap (λ b. cond b None (Some n)) is
+frame_of_line (Some f) bare n is e = ap (λ b. cond b None (Some n)) is ∙ ap (λ k. Some k) e
+
+frame_set_same : (r s : Lines) (line : ℕ) (frame : Option ℕ) → line < lines → length r.frames ≡ lines → length r.bare ≡ lines
+    → s.frames ≡ set r.frames line (unwrap_or frame 0) → s.bare ≡ set r.bare line (is_none frame) → line_frame s line ≡ frame
+frame_set_same r s line frame within wide broad frames bare =
+    frame_of_line frame (get_or s.bare line false) (get_or s.frames line 0)
+    (ap (λ (bs : List Bool). get_or bs line false) bare ∙ get_or-set_same r.bare line (is_none frame) false (omega (arith, within, broad)))
+    (ap (λ (ns : List ℕ). get_or ns line 0) frames ∙ get_or-set_same r.frames line (unwrap_or frame 0) 0 (omega (arith, within, wide)))
+
+frame_set_other : (r s : Lines) (line k : ℕ) (frame : Option ℕ) → (k ≡ line → ⊥) → s.frames ≡ set r.frames line (unwrap_or frame 0) → s.bare ≡ set r.bare line (is_none frame) → line_frame s k ≡ line_frame r k
+frame_set_other r s line k frame other frames bare =
+    let same_bare : get_or s.bare k false ≡ get_or r.bare k false = ap (λ (bs : List Bool). get_or bs k false) bare ∙ get_or-set_other r.bare line k (is_none frame) false other in
+    let same : get_or s.frames k 0 ≡ get_or r.frames k 0 = ap (λ (ns : List ℕ). get_or ns k 0) frames ∙ get_or-set_other r.frames line k (unwrap_or frame 0) 0 other in
+    ap (λ b. cond b None (Some (get_or s.frames k 0))) same_bare ∙ ap (λ n. cond (get_or r.bare k false) None (Some n)) same
 
 -- another slot in the place of one
 module _ (ss : List Slot) (i : ℕ) (l : i < length ss) (s : Slot) where
@@ -67,8 +86,8 @@ module _ (ss : List Slot) (i : ℕ) (l : i < length ss) (s : Slot) where
     pub hand_kept : (h : Hand) → AreAtHand ss h → AreAtHand (set ss i s) h
     hand_kept h is = record {
       code = λ some. let at = is.code some in (at.0, held_kept Fetch h.code.number (Some h.code.frame) at.0 at.1);
-      reads = λ k within own. held_kept Read (get_or h.reads.value.pages k 0) (get_or h.reads.value.frames k None) (get_or h.reads.value.places k 0) (is.reads k within own);
-      writes = λ k within own. held_kept Write (get_or h.writes.value.pages k 0) (get_or h.writes.value.frames k None) (get_or h.writes.value.places k 0) (is.writes k within own);
+      reads = λ k within own. held_kept Read (get_or h.reads.value.pages k 0) (line_frame h.reads.value k) (get_or h.reads.value.places k 0) (is.reads k within own);
+      writes = λ k within own. held_kept Write (get_or h.writes.value.pages k 0) (line_frame h.writes.value k) (get_or h.writes.value.places k 0) (is.writes k within own);
     }
 
 -- the same by other names of the page, the frame and the place
@@ -85,7 +104,7 @@ code_number code s k =
 
 reads_pages : (l : Lines) (page place k : ℕ) → (lines_after l page place k).pages ≡ l.pages
 reads_pages l page place k =
-    let m : Lines = record { pages = l.pages; frames = set l.frames (line_of page) (Some k); places = l.places } in
+    let m : Lines = record { pages = l.pages; frames = set l.frames (line_of page) k; bare = set l.bare (line_of page) false; places = l.places } in
     by_bool (is_held l.pages page && (get_or l.places (line_of page) 0 == place))
     (λ t. ap (λ b. (cond b m l).pages) t)
     (λ t. ap (λ b. (cond b m l).pages) t)
@@ -133,9 +152,9 @@ module _ (ss : List Slot) (i k : ℕ) (l : i < length ss) where
       false≢true (sym t ∙ both (x.number == code.number) x.rights.x (eq-eqb x.number code.number (ap (λ (t : Slot). t.number) same ∙ at.number)) (ap (λ (t : Slot). t.rights.x) same ∙ at.allowed)) in
       (place, held_beside ss i l with_frame Fetch code.number (Some code.frame) place ne at)))
 
-  module _ (r : Lines) (wide : length r.frames ≡ lines) (is : AreLines ss Read r) where
+  module _ (r : Lines) (wide : length r.frames ≡ lines) (broad : length r.bare ≡ lines) (is : AreLines ss Read r) where
     abbrev turned : Lines
-    turned = record { pages = r.pages; frames = set r.frames (line_of x.number) (Some k); places = r.places }
+    turned = record { pages = r.pages; frames = set r.frames (line_of x.number) k; bare = set r.bare (line_of x.number) false; places = r.places }
 
     -- the line of the page has it
     read_turned : is_held r.pages x.number ≡ true → (get_or r.places (line_of x.number) 0 == i) ≡ true → AreLines (set ss i with_frame) Read turned
@@ -146,16 +165,15 @@ module _ (ss : List Slot) (i k : ℕ) (l : i < length ss) where
         let e = eqb-true j (line_of x.number) t in
         let page : x.number ≡ get_or r.pages j 0 = sym (eqb-true (get_or r.pages (line_of x.number) 0) x.number held) ∙ ap (λ n. get_or r.pages n 0) (sym e) in
         let place : get_or r.places j 0 ≡ i = ap (λ n. get_or r.places n 0) e ∙ eqb-true (get_or r.places (line_of x.number) 0) i placed in
-        let frame : get_or (set r.frames (line_of x.number) (Some k)) j None ≡ Some k =
-        ap (λ n. get_or (set r.frames (line_of x.number) (Some k)) n None) e ∙ get_or-set_same r.frames (line_of x.number) (Some k) None (omega (arith, wide)) in
-        held_as (set ss i with_frame) Read (get_or r.pages j 0) (get_or r.pages j 0) (Some k) (get_or (set r.frames (line_of x.number) (Some k)) j None) i (get_or r.places j 0) refl (sym frame) (sym place)
+        let frame : line_frame turned j ≡ Some k = ap (line_frame turned) e ∙ frame_set_same r turned (line_of x.number) (Some k) (omega arith) wide broad refl refl in
+        held_as (set ss i with_frame) Read (get_or r.pages j 0) (get_or r.pages j 0) (Some k) (line_frame turned j) i (get_or r.places j 0) refl (sym frame) (sym place)
         (held_now Read (get_or r.pages j 0) page (ap (λ n. gives (slot_at ss n).rights Read) (sym place) ∙ at.allowed)))
         (λ t.
         let other = eqb-false j (line_of x.number) t in
-        let frame : get_or (set r.frames (line_of x.number) (Some k)) j None ≡ get_or r.frames j None = get_or-set_other r.frames (line_of x.number) j (Some k) None other in
+        let frame : line_frame turned j ≡ line_frame r j = frame_set_other r turned (line_of x.number) j (Some k) other refl refl in
         let ne : get_or r.places j 0 ≡ i → ⊥ = λ e. other (sym own ∙ ap line_of (sym at.number ∙ ap (λ n. (slot_at ss n).number) e)) in
-        held_as (set ss i with_frame) Read (get_or r.pages j 0) (get_or r.pages j 0) (get_or r.frames j None) (get_or (set r.frames (line_of x.number) (Some k)) j None) (get_or r.places j 0) (get_or r.places j 0) refl (sym frame) refl
-        (held_beside ss i l with_frame Read (get_or r.pages j 0) (get_or r.frames j None) (get_or r.places j 0) ne at))
+        held_as (set ss i with_frame) Read (get_or r.pages j 0) (get_or r.pages j 0) (line_frame r j) (line_frame turned j) (get_or r.places j 0) (get_or r.places j 0) refl (sym frame) refl
+        (held_beside ss i l with_frame Read (get_or r.pages j 0) (line_frame r j) (get_or r.places j 0) ne at))
 
     -- no line has it
     read_other : (is_held r.pages x.number && (get_or r.places (line_of x.number) 0 == i)) ≡ false → AreLines (set ss i with_frame) Read r
@@ -168,7 +186,7 @@ module _ (ss : List Slot) (i k : ℕ) (l : i < length ss) where
         let held : get_or r.pages (line_of x.number) 0 ≡ x.number = ap (λ n. get_or r.pages n 0) line ∙ sym page in
         let placed : get_or r.places (line_of x.number) 0 ≡ i = ap (λ n. get_or r.places n 0) line ∙ e in
         false≢true (sym t ∙ both (is_held r.pages x.number) (get_or r.places (line_of x.number) 0 == i) (eq-eqb (get_or r.pages (line_of x.number) 0) x.number held) (eq-eqb (get_or r.places (line_of x.number) 0) i placed)) in
-        held_beside ss i l with_frame Read (get_or r.pages j 0) (get_or r.frames j None) (get_or r.places j 0) ne at
+        held_beside ss i l with_frame Read (get_or r.pages j 0) (line_frame r j) (get_or r.places j 0) ne at
 
     reads_moved : AreLines (set ss i with_frame) Read (lines_after r x.number i k)
     reads_moved =
@@ -181,12 +199,12 @@ module _ (ss : List Slot) (i k : ℕ) (l : i < length ss) where
   writes_moved shared w is = λ j within own.
       let at = is j within own in
       let ne : get_or w.places j 0 ≡ i → ⊥ = λ e. false≢true (sym shared ∙ ap (λ n. is_own (slot_at ss n)) (sym e) ∙ at.own refl) in
-      held_beside ss i l with_frame Write (get_or w.pages j 0) (get_or w.frames j None) (get_or w.places j 0) ne at
+      held_beside ss i l with_frame Write (get_or w.pages j 0) (line_frame w j) (get_or w.places j 0) ne at
 
-  pub hand_moved : is_own x ≡ false → (h n : Hand) → n.code ≡ code_after h.code x k → n.reads.value ≡ lines_after h.reads.value x.number i k → n.writes.value ≡ h.writes.value → length h.reads.value.frames ≡ lines → AreAtHand ss h → AreAtHand (set ss i with_frame) n
-  hand_moved shared h n code reads writes wide is = record {
+  pub hand_moved : is_own x ≡ false → (h n : Hand) → n.code ≡ code_after h.code x k → n.reads.value ≡ lines_after h.reads.value x.number i k → n.writes.value ≡ h.writes.value → length h.reads.value.frames ≡ lines → length h.reads.value.bare ≡ lines → AreAtHand ss h → AreAtHand (set ss i with_frame) n
+  hand_moved shared h n code reads writes wide broad is = record {
     code = subst (λ (c : CodePage). IsCode (set ss i with_frame) c) (sym code) (code_moved h.code is.code);
-    reads = subst (λ (l : Lines). AreLines (set ss i with_frame) Read l) (sym reads) (reads_moved h.reads.value wide is.reads);
+    reads = subst (λ (l : Lines). AreLines (set ss i with_frame) Read l) (sym reads) (reads_moved h.reads.value wide broad is.reads);
     writes = subst (λ (l : Lines). AreLines (set ss i with_frame) Write l) (sym writes) (writes_moved shared h.writes.value is.writes);
   }
 
@@ -224,23 +242,24 @@ pub none_at_first : (ss : List Slot) (h : Hand) → hand_of h ≡ nothing_at_han
 none_at_first ss h e = none_at_hand ss h (ap (λ (a : AtHand). a.code) e) (ap (λ (a : AtHand). a.reads) e) (ap (λ (a : AtHand). a.writes) e)
 
 -- the line of a page is set
-pub lines_set : (ss : List Slot) (kind : Kind) (r : Lines) (page : ℕ) (frame : Option ℕ) (i : ℕ) → length r.pages ≡ lines → length r.frames ≡ lines → length r.places ≡ lines → IsHeldAt ss kind page frame i → AreLines ss kind r →
+pub lines_set : (ss : List Slot) (kind : Kind) (r : Lines) (page : ℕ) (frame : Option ℕ) (i : ℕ) → length r.pages ≡ lines → length r.frames ≡ lines → length r.bare ≡ lines → length r.places ≡ lines → IsHeldAt ss kind page frame i → AreLines ss kind r →
     AreLines ss kind (with_line r page frame i)
-lines_set ss kind r page frame i long wide deep now is = λ k within own.
+lines_set ss kind r page frame i long wide broad deep now is = λ k within own.
+    let more : Lines = with_line r page frame i in
     by_bool (k == line_of page)
     (λ t.
     let e = eqb-true k (line_of page) t in
     let p : page ≡ get_or (set r.pages (line_of page) page) k 0 = sym (ap (λ n. get_or (set r.pages (line_of page) page) n 0) e ∙ get_or-set_same r.pages (line_of page) page 0 (omega (arith, long))) in
-    let f : frame ≡ get_or (set r.frames (line_of page) frame) k None = sym (ap (λ n. get_or (set r.frames (line_of page) frame) n None) e ∙ get_or-set_same r.frames (line_of page) frame None (omega (arith, wide))) in
+    let f : frame ≡ line_frame more k = sym (ap (line_frame more) e ∙ frame_set_same r more (line_of page) frame (omega arith) wide broad refl refl) in
     let q : i ≡ get_or (set r.places (line_of page) i) k 0 = sym (ap (λ n. get_or (set r.places (line_of page) i) n 0) e ∙ get_or-set_same r.places (line_of page) i 0 (omega (arith, deep))) in
-    held_as ss kind page (get_or (set r.pages (line_of page) page) k 0) frame (get_or (set r.frames (line_of page) frame) k None) i (get_or (set r.places (line_of page) i) k 0) p f q now)
+    held_as ss kind page (get_or (set r.pages (line_of page) page) k 0) frame (line_frame more k) i (get_or (set r.places (line_of page) i) k 0) p f q now)
     (λ t.
     let other = eqb-false k (line_of page) t in
     let p : get_or r.pages k 0 ≡ get_or (set r.pages (line_of page) page) k 0 = sym (get_or-set_other r.pages (line_of page) k page 0 other) in
-    let f : get_or r.frames k None ≡ get_or (set r.frames (line_of page) frame) k None = sym (get_or-set_other r.frames (line_of page) k frame None other) in
+    let f : line_frame r k ≡ line_frame more k = sym (frame_set_other r more (line_of page) k frame other refl refl) in
     let q : get_or r.places k 0 ≡ get_or (set r.places (line_of page) i) k 0 = sym (get_or-set_other r.places (line_of page) k i 0 other) in
     let at = is k within (ap line_of p ∙ own) in
-    held_as ss kind (get_or r.pages k 0) (get_or (set r.pages (line_of page) page) k 0) (get_or r.frames k None) (get_or (set r.frames (line_of page) frame) k None) (get_or r.places k 0) (get_or (set r.places (line_of page) i) k 0) p f q at)
+    held_as ss kind (get_or r.pages k 0) (get_or (set r.pages (line_of page) page) k 0) (line_frame r k) (line_frame more k) (get_or r.places k 0) (get_or (set r.places (line_of page) i) k 0) p f q at)
 
 -- the line of the page at place i is emptied, and its slot is another
 module _ (ss : List Slot) (i : ℕ) (l : i < length ss) (s : Slot) (page : ℕ) (number : (slot_at ss i).number ≡ page) where
@@ -257,8 +276,8 @@ module _ (ss : List Slot) (i : ℕ) (l : i < length ss) (s : Slot) (page : ℕ) 
       let p : get_or r.pages k 0 ≡ get_or (set r.pages (line_of page) (line_of page + 1)) k 0 = sym (get_or-set_other r.pages (line_of page) k (line_of page + 1) 0 other) in
       let at = is k within (ap line_of p ∙ own) in
       let ne : get_or r.places k 0 ≡ i → ⊥ = λ e. other (sym (ap line_of p ∙ own) ∙ ap line_of (sym at.number ∙ ap (λ n. (slot_at ss n).number) e ∙ number)) in
-      held_as (set ss i s) kind (get_or r.pages k 0) (get_or (set r.pages (line_of page) (line_of page + 1)) k 0) (get_or r.frames k None) (get_or r.frames k None) (get_or r.places k 0) (get_or r.places k 0) p refl refl
-      (held_beside ss i l s kind (get_or r.pages k 0) (get_or r.frames k None) (get_or r.places k 0) ne at))
+      held_as (set ss i s) kind (get_or r.pages k 0) (get_or (set r.pages (line_of page) (line_of page + 1)) k 0) (line_frame r k) (line_frame r k) (get_or r.places k 0) (get_or r.places k 0) p refl refl
+      (held_beside ss i l s kind (get_or r.pages k 0) (line_frame r k) (get_or r.places k 0) ne at))
 
   pub hand_dropped : (h n : Hand) → n.code.number ≡ no_page → n.reads.value ≡ without_line h.reads.value page → n.writes.value ≡ without_line h.writes.value page → length h.reads.value.pages ≡ lines → length h.writes.value.pages ≡ lines → AreAtHand ss h → AreAtHand (set ss i s) n
   hand_dropped h n code reads writes long wide is = record {
@@ -270,10 +289,10 @@ module _ (ss : List Slot) (i : ℕ) (l : i < length ss) (s : Slot) (page : ℕ) 
 -- ---- the bytes of a page at hand
 
 -- the page of a line that has it is at its place
-pub line_held : (ss : List Slot) (kind : Kind) (r : Lines) → AreLines ss kind r → (page : ℕ) → is_held r.pages page ≡ true → IsHeldAt ss kind page (get_or r.frames (line_of page) None) (get_or r.places (line_of page) 0)
+pub line_held : (ss : List Slot) (kind : Kind) (r : Lines) → AreLines ss kind r → (page : ℕ) → is_held r.pages page ≡ true → IsHeldAt ss kind page (line_frame r (line_of page)) (get_or r.places (line_of page) 0)
 line_held ss kind r is page e =
     let has : get_or r.pages (line_of page) 0 ≡ page = eqb-true (get_or r.pages (line_of page) 0) page e in
-    held_as ss kind (get_or r.pages (line_of page) 0) page (get_or r.frames (line_of page) None) (get_or r.frames (line_of page) None) (get_or r.places (line_of page) 0) (get_or r.places (line_of page) 0) has refl refl
+    held_as ss kind (get_or r.pages (line_of page) 0) page (line_frame r (line_of page)) (line_frame r (line_of page)) (get_or r.places (line_of page) 0) (get_or r.places (line_of page) 0) has refl refl
     (is (line_of page) (omega arith) (ap line_of has))
 
 module _ (live : Live) (ss : List Slot) (held : AreHeld live ss) (kind : Kind) (page : ℕ) (frame : Option ℕ) (i : ℕ) (at : IsHeldAt ss kind page frame i) where

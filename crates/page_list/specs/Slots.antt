@@ -1,5 +1,5 @@
 -- What a list of slots stands for, by the bytes of the blocks in use, and how often blocks are named.
-use Rattle.std.specs.Prelude.{◌≡◌, ◌≤◌, ◌<◌, ◌^◌, if◌then◌else◌, ℕ, zero, suc, ◌+◌, ◌*◌, ◌==◌, Bool, true, false, ◌&&◌, not, List, [], ◌∷◌, map, length, get_or, set, Option, Some, None}
+use Rattle.std.specs.Prelude.{◌≡◌, ◌≤◌, ◌<◌, ◌^◌, if◌then◌else◌, ℕ, zero, suc, ◌+◌, ◌*◌, ◌==◌, Bool, true, false, ◌&&◌, not, List, [], ◌∷◌, map, length, get_or, set, Option, Some, None, is_none, unwrap_or}
 use Rattle.std.specs.List.{sum_by, AllByRecursion}
 use Rattle.std.specs.Vec.{vec_capacity}
 use Rattle.emu_model.specs.Access.{gives, page_size, most_mapped_pages}
@@ -203,9 +203,13 @@ pub record IsHeldAt (slots : List Slot) (kind : Kind) (page : ℕ) (frame : Opti
 abbrev pub IsCode : List Slot → CodePage → Type 0
 IsCode slots code = code.number < no_page → (i : ℕ) × IsHeldAt slots Fetch code.number (Some code.frame) i
 
+-- the frame in line k, if its page has one
+abbrev pub line_frame : Lines → ℕ → Option ℕ
+line_frame l k = if get_or l.bare k false then None else Some (get_or l.frames k 0)
+
 -- each page in the lines is at its place, but for lines that have a page of another line
 abbrev pub AreLines : List Slot → Kind → Lines → Type 0
-AreLines slots kind l = (k : ℕ) → k < lines → line_of (get_or l.pages k 0) ≡ k → IsHeldAt slots kind (get_or l.pages k 0) (get_or l.frames k None) (get_or l.places k 0)
+AreLines slots kind l = (k : ℕ) → k < lines → line_of (get_or l.pages k 0) ≡ k → IsHeldAt slots kind (get_or l.pages k 0) (line_frame l k) (get_or l.places k 0)
 
 pub record AreAtHand (slots : List Slot) (hand : Hand) : Type 0 where
   pub code : IsCode slots hand.code
@@ -218,7 +222,7 @@ code_after code s f = if s.number == code.number && s.rights.x then record { num
 
 -- the lines with a page, its frame and its place in its line
 abbrev pub with_line : Lines → ℕ → Option ℕ → ℕ → Lines
-with_line l page frame place = record { pages = set l.pages (line_of page) page; frames = set l.frames (line_of page) frame; places = set l.places (line_of page) place }
+with_line l page frame place = record { pages = set l.pages (line_of page) page; frames = set l.frames (line_of page) (unwrap_or frame 0); bare = set l.bare (line_of page) (is_none frame); places = set l.places (line_of page) place }
 
 -- the lines with the line of a page empty
 abbrev pub without_line : Lines → ℕ → Lines
@@ -226,7 +230,7 @@ without_line l page = record l { pages = set l.pages (line_of page) (line_of pag
 
 -- the lines where the page at a place gets the frame f: the same pages, and its line has that frame where it has the page
 abbrev pub lines_after : Lines → ℕ → ℕ → ℕ → Lines
-lines_after l page place f = if is_held l.pages page && (get_or l.places (line_of page) 0 == place) then record l { frames = set l.frames (line_of page) (Some f) } else l
+lines_after l page place f = if is_held l.pages page && (get_or l.places (line_of page) 0 == place) then record l { frames = set l.frames (line_of page) f; bare = set l.bare (line_of page) false } else l
 
 pub record IsKept (a : Inside) : Type 0 where
   pub counts : (f : ℕ) → count_of a.arena.live f ≡ holders f a.slots.items + marked f a.marks.items

@@ -1,7 +1,7 @@
 //! The pages at hand: the one that instructions are fetched from, and lines of pages that may be read or written.
-ghost use Rattle.std.specs.Prelude.{◌≡◌, IfOk, None, get_or, length, replicate};
+ghost use Rattle.std.specs.Prelude.{◌≡◌, IfOk, IsSome, Some, length, replicate};
 ghost use Rattle.page_list.specs.Entries.{empty_lines, is_held, line_of, lines, no_page, nothing_at_hand};
-ghost use Rattle.page_list.specs.Slots.{code_after, hand_of, lines_after, with_line, without_line};
+ghost use Rattle.page_list.specs.Slots.{code_after, hand_of, line_frame, lines_after, with_line, without_line};
 
 use crate::code::{CodePage, NO_CODE};
 use crate::slots::{Slot, code_with};
@@ -11,12 +11,14 @@ use std::alloc::Global;
 /// The number of lines.
 pub(crate) const LINES: usize = 64;
 
-/// A line for each value of the low six bits of a page's number: a page, its frame if it has one, and its place in the
-/// list. A line that is empty has a page of another line.
+/// A line for each value of the low six bits of a page's number: a page, its frame, whether it has none, and its place in
+/// the list. A line that is empty has a page of another line.
 #[derive(Drop)]
 pub(crate) struct Lines {
     pub(crate) pages: [u64; LINES],
-    pub(crate) frames: [Option<u32>; LINES],
+    pub(crate) frames: [u32; LINES],
+    // beside the frames, so that a page that is written is found with no test of it
+    pub(crate) bare: [bool; LINES],
     pub(crate) places: [usize; LINES],
 }
 
@@ -47,7 +49,8 @@ impl Lines {
         pages[1] = 0;
         Lines {
             pages,
-            frames: [None; LINES],
+            frames: [0; LINES],
+            bare: [false; LINES],
             places: [0; LINES],
         }
     }
@@ -68,10 +71,24 @@ impl Lines {
         self.pages[line_of(page)] == page
     }
 
-    /// The frame in the line of a page.
+    /// The frame in the line of a page, if the page has one.
     #[inline(always)]
     pub(crate) fn frame(&self, page: u64) -> Option<u32>
-        ensures { result ≡ get_or self.now.frames (line_of page) None }
+        ensures { result ≡ line_frame self.now (line_of page) }
+    {
+        let line = line_of(page);
+        if self.bare[line] {
+            None
+        } else {
+            Some(self.frames[line])
+        }
+    }
+
+    /// The frame in the line of a page that has one.
+    #[inline(always)]
+    pub(crate) fn own_frame(&self, page: u64) -> u32
+        requires { IsSome (line_frame self.now (line_of page)) }
+        ensures { line_frame self.now (line_of page) ≡ Some result }
     {
         self.frames[line_of(page)]
     }
@@ -81,11 +98,13 @@ impl Lines {
         ensures line { self.new ≡ with_line self.old page frame place }
         ensures pages { length self.old.pages ≡ lines }
         ensures frames { length self.old.frames ≡ lines }
+        ensures bare { length self.old.bare ≡ lines }
         ensures places { length self.old.places ≡ lines }
     {
         let line = line_of(page);
         self.pages[line] = page;
-        self.frames[line] = frame;
+        self.bare[line] = frame.is_none();
+        self.frames[line] = frame.unwrap_or(0);
         self.places[line] = place;
     }
 
@@ -102,10 +121,12 @@ impl Lines {
     fn turn(&mut self, page: u64, place: usize, frame: &Frame)
         ensures lines { self.new ≡ lines_after self.old page place frame.now }
         ensures frames { length self.old.frames ≡ lines }
+        ensures bare { length self.old.bare ≡ lines }
     {
         let line = line_of(page);
         if self.pages[line] == page && self.places[line] == place {
-            self.frames[line] = Some(frame.number());
+            self.frames[line] = frame.number();
+            self.bare[line] = false;
         }
     }
 }
@@ -139,6 +160,7 @@ impl Hand {
         ensures reads { self.new.reads.value ≡ lines_after self.old.reads.value slot.now.number place frame.now }
         ensures writes { self.new.writes.value ≡ self.old.writes.value }
         ensures frames { length self.old.reads.value.frames ≡ lines }
+        ensures bare { length self.old.reads.value.bare ≡ lines }
     {
         self.code = code_with(self.code, slot, frame);
         self.reads.turn(slot.number, place, frame);

@@ -47,7 +47,7 @@ use crate::hand::Hand;
 use crate::slots::{
     Mark, Slot, clear_mark, code_of, ensure_own, fill_mark, frame_bytes, frame_number, has_own,
     move_back, move_to_end, own_frame, page_bytes, pop_all, pop_every, push_all, share_all,
-    told_bytes, told_frame,
+    told_bytes,
 };
 use emu_model::{Kind, Rights};
 use frame_arena::{FrameArena, OutOfMemory};
@@ -200,7 +200,7 @@ impl PageList {
             ≡ take count (drop at (entry_at self.old.pages (place_at_hand self.old.hand page)).1.bytes) }
         ensures length { length result.now ≡ count }
     {
-        let number = told_frame(self.hand.writes.frame(page));
+        let number = self.hand.writes.own_frame(page);
         // for its clause: what the frame has are bytes
         let _bytes = told_bytes(self.arena.bytes_at(number));
         *spare = self.arena.spare();

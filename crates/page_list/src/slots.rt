@@ -273,18 +273,6 @@ pub(crate) fn frame_number(slot: &Slot) -> Option<u32>
     }
 }
 
-/// The frame of a page that has one.
-#[inline(always)]
-pub(crate) fn told_frame(frame: Option<u32>) -> u32
-    requires { IsSome frame }
-    ensures { frame ≡ Some result }
-{
-    match frame {
-        Some(number) => number,
-        None => unreachable!(),
-    }
-}
-
 /// The numbers of a page and its frame, where it has one.
 pub(crate) fn code_of(slot: &Slot) -> Option<CodePage>
     ensures { result ≡ option_map (λ f. record { number = slot.now.number; frame = f }) (hold_frame slot.now.hold) }

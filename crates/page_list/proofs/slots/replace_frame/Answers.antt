@@ -110,4 +110,4 @@ returns-clause-at_hand c = λ is.
     let same : c.index-2.result.now ≡ slot_at ss i = c.index-2.ensures ∙ get_or_default ss i c.index-2.result.now no_slot c.requires.place in
     subst (λ (l : List Slot). AreAtHand l c.turn.new.self) (sym c.put_frame-old.ensures.slots)
     (hand_moved ss i k c.requires.place (not_own c.args.arena.now.live ss i c.requires.place c.requires.own c.requires.shared) h c.turn.new.self
-    (e.code ∙ ap (λ (s : Slot). code_after h.code s k) same) (e.reads ∙ ap (λ (s : Slot). lines_after h.reads.value s.number i k) same) e.writes e.frames is)
+    (e.code ∙ ap (λ (s : Slot). code_after h.code s k) same) (e.reads ∙ ap (λ (s : Slot). lines_after h.reads.value s.number i k) same) e.writes e.frames e.bare is)

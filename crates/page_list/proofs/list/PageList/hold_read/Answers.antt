@@ -26,7 +26,7 @@ invariant_of-self c =
       hand = record {
         code = i.hand.code;
         reads = subst (λ (r : Lines). AreLines ss Read r) (sym c.set.ensures.line)
-            (lines_set ss Read c.deref_mut.result.now x.number c.frame_number.result c.args.i c.set.ensures.pages c.set.ensures.frames c.set.ensures.places (record {
+            (lines_set ss Read c.deref_mut.result.now x.number c.frame_number.result c.args.i c.set.ensures.pages c.set.ensures.frames c.set.ensures.bare c.set.ensures.places (record {
               within = l;
               number = ap (λ (s : Slot). s.number) same;
               allowed = ap (λ (s : Slot). s.rights.r) same ∙ rights;
