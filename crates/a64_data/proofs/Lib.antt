@@ -1,2 +1,3 @@
+pub mod ByOperation
 pub mod Conditions
 pub mod Masks

@@ -3,20 +3,19 @@ ghost use Rattle.std.specs.Prelude.{◌≡◌, ◌<◌, ◌≤◌, ◌+◌, ◌^
 ghost use Rattle.a64_insn.specs.declared.form.A64Form.{A64Form};
 ghost use Rattle.a64_insn.specs.Rows.{meets_form};
 ghost use Rattle.emu_bits.specs.Fields.{field};
-ghost use Rattle.emu_bits.specs.Numbers as numbers;
 ghost use Rattle.a64_effects.specs.Groups.{after_data};
 ghost use Rattle.a64_effects.specs.Scalar as table;
 ghost use Rattle.emu_bits.specs.Operations as bits;
-ghost use Rattle.a64_data.specs.Groups.{is_field};
 
-use crate::registers::{operand, width_of, write};
-use a64_insn::{A64, A64Form, BitfieldOp};
+use crate::registers::{operand, write};
+use a64_insn::BitfieldOp;
+use a64_operations::operands::width_of;
 use a64_operations::shifts::extracted;
 use core_regs::Core;
 use emu_bits::{Reg, U, low_bits, sign_extended};
 
 /// The n bits from a place on, replaced.
-pub(crate) fn replaced(a: u64, place: u32, n: u32, v: u64) -> u128
+fn replaced(a: u64, place: u32, n: u32, v: u64) -> u128
     requires place { place + n ≤ 64 }
     requires within { v < 2 ^ n }
     ensures { result ≡ bits.replaced a place n v }
@@ -99,48 +98,8 @@ fn places(w: u32, r: u32, s: u32) -> Move
     }
 }
 
-/// Moves a field of a register.
-pub(crate) fn exec(core: &mut Core, i: &A64)
-    requires { is_field i.now ≡ true }
-    ensures { core.new ≡ after_data i.now core.old }
-{
-    match *i.form() {
-        A64Form::Bitfield {
-            op,
-            sf,
-            n,
-            r,
-            s,
-            rn,
-            rd,
-        } => bitfield(core, op, sf, n, r, s, rn, rd),
-        A64Form::Extract {
-            sf,
-            n,
-            rm,
-            s,
-            rn,
-            rd,
-        } => extract(core, sf, n, rm, s, rn, rd),
-        _ => {}
-    }
-}
-
-fn bitfield(core: &mut Core, op: BitfieldOp, sf: bool, n: bool, r: U<6>, s: U<6>, rn: Reg, rd: Reg)
-    requires { meets_form (A64Form.Bitfield op sf n r s rn rd) ≡ true }
-    ensures { core.new ≡ after_data (A64Form.Bitfield op sf n r s rn rd) core.old }
-{
-    // the width is a constant in each of the two
-    if sf {
-        bitfield_at(core, op, sf, n, r, s, rn, rd, 64);
-    } else {
-        bitfield_at(core, op, sf, n, r, s, rn, rd, 32);
-    }
-}
-
 #[tactic(auto, using(crate::proofs::Conditions::bitfield_below))]
-#[inline(always)]
-fn bitfield_at(
+pub(crate) fn bitfield(
     core: &mut Core,
     op: BitfieldOp,
     sf: bool,
@@ -149,17 +108,15 @@ fn bitfield_at(
     s: U<6>,
     rn: Reg,
     rd: Reg,
-    w: u32,
 )
-    requires width { w ≡ numbers.width_of sf }
-    requires either { (w ≡ 32) ⊎ (w ≡ 64) }
-    requires met { meets_form (A64Form.Bitfield op sf n r s rn rd) ≡ true }
+    requires { meets_form (A64Form.Bitfield op sf n r s rn rd) ≡ true }
     ensures { core.new ≡ after_data (A64Form.Bitfield op sf n r s rn rd) core.old }
 {
+    let w = width_of(sf);
     move_field(core, op, w, rn, rd, places(w, r.get(), s.get()));
 }
 
-fn extract(core: &mut Core, sf: bool, n: bool, rm: Reg, s: U<6>, rn: Reg, rd: Reg)
+pub(crate) fn extract(core: &mut Core, sf: bool, n: bool, rm: Reg, s: U<6>, rn: Reg, rd: Reg)
     ensures { core.new ≡ after_data (A64Form.Extract sf n rm s rn rd) core.old }
 {
     let w = width_of(sf);

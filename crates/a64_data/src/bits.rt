@@ -1,14 +1,14 @@
 //! Bits and bytes in another order, and counts of leading bits.
-ghost use Rattle.std.specs.Prelude.{◌≡◌, ◌<◌, ◌^◌, ◌⊎◌, true};
+ghost use Rattle.std.specs.Prelude.{◌≡◌, ◌<◌, ◌^◌, ◌⊎◌};
 ghost use Rattle.a64_insn.specs.declared.form.A64Form.{A64Form};
 ghost use Rattle.a64_effects.specs.Groups.{after_data};
 ghost use Rattle.a64_effects.specs.Scalar as table;
 ghost use Rattle.emu_bits.specs.Operations as bits;
-ghost use Rattle.a64_data.specs.Groups.{is_reversal};
 
-use crate::registers::{operand, width_of};
-use a64_insn::{A64, A64Form, OneSourceOp, RevOp};
+use crate::registers::operand;
+use a64_insn::{OneSourceOp, RevOp};
 use a64_operations::numbers::complement;
+use a64_operations::operands::width_of;
 use core_regs::Core;
 use emu_bits::Reg;
 
@@ -111,19 +111,7 @@ fn of_one(op: OneSourceOp, w: u32, a: u64) -> u64
     }
 }
 
-/// Counts or reverses bits or bytes.
-pub(crate) fn exec(core: &mut Core, i: &A64)
-    requires { is_reversal i.now ≡ true }
-    ensures { core.new ≡ after_data i.now core.old }
-{
-    match *i.form() {
-        A64Form::OneSource { op, sf, rn, rd } => one_source(core, op, sf, rn, rd),
-        A64Form::Rev { op, rn, rd } => rev(core, op, rn, rd),
-        _ => {}
-    }
-}
-
-fn one_source(core: &mut Core, op: OneSourceOp, sf: bool, rn: Reg, rd: Reg)
+pub(crate) fn one_source(core: &mut Core, op: OneSourceOp, sf: bool, rn: Reg, rd: Reg)
     ensures { core.new ≡ after_data (A64Form.OneSource op sf rn rd) core.old }
 {
     let w = width_of(sf);
@@ -131,7 +119,7 @@ fn one_source(core: &mut Core, op: OneSourceOp, sf: bool, rn: Reg, rd: Reg)
     core.set_x(rd, w, v);
 }
 
-fn rev(core: &mut Core, op: RevOp, rn: Reg, rd: Reg)
+pub(crate) fn rev(core: &mut Core, op: RevOp, rn: Reg, rd: Reg)
     ensures { core.new ≡ after_data (A64Form.Rev op rn rd) core.old }
 {
     match op {

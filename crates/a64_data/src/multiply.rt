@@ -1,64 +1,19 @@
 //! Products, quotients, and shifts by a register.
-ghost use Rattle.std.specs.Prelude.{◌≡◌, ◌<◌, ◌^◌, ◌*◌, ◌⊎◌, true};
+ghost use Rattle.std.specs.Prelude.{◌≡◌, ◌<◌, ◌^◌, ◌⊎◌};
 ghost use Rattle.a64_insn.specs.declared.form.A64Form.{A64Form};
-ghost use Rattle.emu_bits.specs.Numbers as numbers;
+ghost use Rattle.emu_model.specs.State.{with_x};
 ghost use Rattle.a64_effects.specs.Groups.{after_data};
 ghost use Rattle.a64_effects.specs.Scalar as table;
 ghost use Rattle.emu_bits.specs.Operations as bits;
-ghost use Rattle.a64_data.specs.Groups.{is_product};
 
-use crate::registers::{operand, width_of, write};
-use a64_insn::{A64, A64Form, MulAddOp, MulHighOp, MulLongOp, TwoSourceOp};
+use crate::registers::{operand, write};
+use a64_insn::{MulHighOp, MulLongOp, TwoSourceOp};
+use a64_operations::fields;
 use a64_operations::numbers::{difference, product, quotient, scaled_down, wrapped};
+use a64_operations::operands::width_of;
 use a64_operations::shifts::{asr, lsl, lsr, ror};
 use core_regs::Core;
 use emu_bits::{Reg, sext};
-
-/// Does a product, a quotient or a shift by a register.
-pub(crate) fn exec(core: &mut Core, i: &A64)
-    requires { is_product i.now ≡ true }
-    ensures { core.new ≡ after_data i.now core.old }
-{
-    match *i.form() {
-        A64Form::MulAdd {
-            op,
-            sf,
-            rm,
-            ra,
-            rn,
-            rd,
-        } => mul_add(core, op, sf, rm, ra, rn, rd),
-        A64Form::MulLong { op, rm, ra, rn, rd } => mul_long(core, op, rm, ra, rn, rd),
-        A64Form::MulHigh { op, rm, rn, rd } => mul_high(core, op, rm, rn, rd),
-        A64Form::TwoSource { op, sf, rm, rn, rd } => { two_source(core, op, sf, rm, rn, rd) }
-        _ => {}
-    }
-}
-
-fn mul_add(core: &mut Core, op: MulAddOp, sf: bool, rm: Reg, ra: Reg, rn: Reg, rd: Reg)
-    ensures { core.new ≡ after_data (A64Form.MulAdd op sf rm ra rn rd) core.old }
-{
-    // the width is a constant in each of the two
-    if sf {
-        mul_add_at(core, op, sf, rm, ra, rn, rd, 64);
-    } else {
-        mul_add_at(core, op, sf, rm, ra, rn, rd, 32);
-    }
-}
-
-#[inline(always)]
-fn mul_add_at(core: &mut Core, op: MulAddOp, sf: bool, rm: Reg, ra: Reg, rn: Reg, rd: Reg, w: u32)
-    requires width { w ≡ numbers.width_of sf }
-    requires either { (w ≡ 32) ⊎ (w ≡ 64) }
-    ensures { core.new ≡ after_data (A64Form.MulAdd op sf rm ra rn rd) core.old }
-{
-    let a = operand(w, core, ra);
-    let p = operand(w, core, rn) as u128 * operand(w, core, rm) as u128;
-    match op {
-        MulAddOp::Madd => write(core, w, rd, a as u128 + p),
-        MulAddOp::Msub => write(core, w, rd, difference(w, a, p) as u128),
-    }
-}
 
 /// The 64-bit product of two 32-bit numbers, signed.
 fn signed_product(a: u64, b: u64) -> u64
@@ -67,7 +22,7 @@ fn signed_product(a: u64, b: u64) -> u64
     wrapped(64, product(sext(a, 32), sext(b, 32)))
 }
 
-fn mul_long(core: &mut Core, op: MulLongOp, rm: Reg, ra: Reg, rn: Reg, rd: Reg)
+pub(crate) fn mul_long(core: &mut Core, op: MulLongOp, rm: Reg, ra: Reg, rn: Reg, rd: Reg)
     ensures { core.new ≡ after_data (A64Form.MulLong op rm ra rn rd) core.old }
 {
     let x = operand(64, core, ra);
@@ -95,7 +50,7 @@ fn signed_upper_product(a: u64, b: u64) -> u64
     wrapped(64, scaled_down(product(sext(a, 64), sext(b, 64)), 64))
 }
 
-fn mul_high(core: &mut Core, op: MulHighOp, rm: Reg, rn: Reg, rd: Reg)
+pub(crate) fn mul_high(core: &mut Core, op: MulHighOp, rm: Reg, rn: Reg, rd: Reg)
     ensures { core.new ≡ after_data (A64Form.MulHigh op rm rn rd) core.old }
 {
     let (a, b) = (operand(64, core, rn), operand(64, core, rm));
@@ -104,13 +59,6 @@ fn mul_high(core: &mut Core, op: MulHighOp, rm: Reg, rn: Reg, rd: Reg)
         MulHighOp::Umulh => upper_product(a, b),
     };
     core.set_x(rd, 64, v);
-}
-
-/// The quotient, and 0 where the second is 0.
-fn unsigned_quotient(a: u64, b: u64) -> u64
-    ensures { result ≡ bits.unsigned_quotient a b }
-{
-    if b == 0 { 0 } else { a / b }
 }
 
 /// The quotient towards zero, and 0 where the second is 0.
@@ -130,7 +78,7 @@ fn of_two(op: TwoSourceOp, w: u32, a: u64, b: u64) -> u64
 {
     let k = (b % w as u64) as u32;
     match op {
-        TwoSourceOp::Udiv => unsigned_quotient(a, b),
+        TwoSourceOp::Udiv => fields::quotient(a, b),
         TwoSourceOp::Sdiv => signed_quotient(w, a, b),
         TwoSourceOp::Lslv => lsl(w, a, k),
         TwoSourceOp::Lsrv => lsr(w, a, k),
@@ -139,10 +87,12 @@ fn of_two(op: TwoSourceOp, w: u32, a: u64, b: u64) -> u64
     }
 }
 
-fn two_source(core: &mut Core, op: TwoSourceOp, sf: bool, rm: Reg, rn: Reg, rd: Reg)
-    ensures { core.new ≡ after_data (A64Form.TwoSource op sf rm rn rd) core.old }
+/// Rd is the quotient of two registers, or the first moved by the second.
+pub(crate) fn quotient_or_shift(core: &mut Core, op: TwoSourceOp, w: u32, rm: Reg, rn: Reg, rd: Reg)
+    requires { (w ≡ 32) ⊎ (w ≡ 64) }
+    ensures { core.new ≡ with_x core.old rd w
+        (table.of_two_sources op w (table.operand w core.old rn) (table.operand w core.old rm)) }
 {
-    let w = width_of(sf);
     let v = of_two(op, w, operand(w, core, rn), operand(w, core, rm));
     core.set_x(rd, w, v);
 }

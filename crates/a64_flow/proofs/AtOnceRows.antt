@@ -1,16 +1,12 @@
 -- Loads and stores that were done at once, by the addresses that their operations say.
-use Rattle.std.proofs.Common.{◌≡◌, ◌<◌, ℕ, ◌+◌, ◌*◌, ◌%◌, ◌^◌, ℤ, List, Option, Some, None, sym, ap, subst, ◌∙◌, arith, w32, FitsSigned, to_z, of_z}
+use Rattle.std.proofs.Common.{◌≡◌, ℕ, ◌+◌, ◌*◌, ◌^◌, ℤ, List, Some, sym, ap, ◌∙◌, w32, FitsSigned, to_z, of_z}
 use Rattle.std.proofs.lemmas.Int.{to_z-of_z}
 use Rattle.emu_model.specs.declared.access.Access.{Access}
-use Rattle.emu_bits.specs.Numbers.{extended}
-use Rattle.emu_model.specs.declared.trap.Effect.{Effect}
 use Rattle.emu_model.specs.declared.trap.Effect.TheVariants.{Next}
 use Rattle.emu_model.specs.Access.{Memory, address}
 use Rattle.emu_model.specs.State.{Core, Vectors, read_x_sp, with_x_sp}
-use Rattle.a64_effects.specs.Effects.{performed_by}
 use Rattle.a64_effects.specs.Flow.{moved_address}
 use Rattle.a64_effects.specs.LoadStore.{transferred_by, unchanged, written_back}
-use Rattle.a64_effects.specs.Operations.{Operation}
 use Rattle.a64_effects.specs.declared.transfer.Transfer.{Transfer}
 use Rattle.a64_flow.specs.AtOnce.{IsDone, general, general_index, general_offset, general_post, general_pre}
 use Rattle.a64_flow.specs.Ends.{done_with}
@@ -44,15 +40,3 @@ module _ (t : Transfer) (rs : List ℕ) (base n : ℕ) (c d : Core) (m left : Me
 
     pub pre_done : HasMoved there → IsDone (general_pre t rs base by n) (Some Next) c e m left l
     pre_done h = λ w. ap (λ x. transferred_by (general t rs base x n after) c w m) (sym is) ∙ h w after ∙ with_base w
-
--- the whole of a register as the index
-module _ (o : Operation) (t : Transfer) (rs : List ℕ) (base n index x k : ℕ) (c d : Core) (m left : Memory) (l : List Access) where
-  done_as : (p : Operation) (r : Option Effect) → ((w : Vectors) → performed_by o c w m ≡ performed_by p c w m) → IsDone p r c d m left l → IsDone o r c d m left l
-  done_as p None same is = is
-  done_as p (Some e) same is = λ w. same w ∙ is w
-
-  pub lsl_done : (r : Option Effect) → index < 2 ^ 64 → index ≡ x → ((w : Vectors) → performed_by o c w m ≡ performed_by (general_index t rs base (extended 3 x) k n) c w m)
-      → IsDone (general_index t rs base index k n) r c d m left l → IsDone o r c d m left l
-  lsl_done r small is same done =
-      let whole : index ≡ x % 2 ^ 64 = omega arith in
-      done_as (general_index t rs base (extended 3 x) k n) r same (subst (λ i. IsDone (general_index t rs base i k n) r c d m left l) whole done)

@@ -2,7 +2,8 @@
 use Rattle.std.proofs.Common.{◌≡◌, ◌<◌, ◌≤◌, ℕ, zero, suc, ◌+◌, ◌*◌, ◌/◌, ◌%◌, ◌^◌, Bool, true, false, List, [], ◌∷◌, Option, Some, None, Ok, nat_eq, if◌then◌else◌, refl, sym, ap, ◌∙◌, arith}
 use Rattle.std.specs.FinMap.{get}
 use Rattle.std.specs.Option.{option_map_or}
-use Rattle.std.proofs.Math.Nat.{pow-suc, div-div-eq-div-mul}
+use Rattle.std.proofs.Math.Arith.{mod-mul}
+use Rattle.std.proofs.Math.Nat.{pow-suc, div-div-eq-div-mul, one-le-pow}
 use Rattle.emu_model.specs.declared.access.Access.{Access}
 use Rattle.emu_model.specs.declared.access.Kind.{Kind}
 use Rattle.emu_model.specs.declared.access.Kind.TheVariants.{Read, Write}
@@ -18,7 +19,6 @@ use Rattle.emu_model.specs.LoadsAndStores.{done_unless, kept_if}
 use Rattle.emu_model.specs.SoundState.{IsSoundMemory}
 use Rattle.emu_model.specs.State.{Core, Vectors, read_x, with_x}
 use Rattle.emu_model.specs.WithinPage.{none_refused_within, refused_within}
-use Rattle.guest_mem.proofs.Numbers.{low_8}
 use Rattle.a64_effects.specs.declared.transfer.Transfer.TheVariants.{Load, Store}
 use Rattle.a64_effects.specs.LoadStore.{elements_from, is_misaligned, loaded_to, stored_to, transferred_by}
 use Rattle.a64_flow.specs.AtOnce.{general}
@@ -64,6 +64,21 @@ stored_split (suc j) n m a v =
     ∙ ap (λ x. stored (stored first (a + 1) j (v / 256)) x n (v / 256 / 256 ^ j)) next
     ∙ ap (λ x. stored (stored first (a + 1) j (v / 256)) (a + suc j) n x) (div-div-eq-div-mul v 256 (256 ^ j) ∙ ap (λ k. v / k) (turned ∙ sym (pow-suc 256 j)))
     ∙ ap (λ (x : Memory). stored x (a + suc j) n (v / 256 ^ suc j)) (sym (stored-suc m a j v))
+
+-- a store of n bytes looks at the lowest n of a number
+stored_low : (n : ℕ) (m : Memory) (a v : ℕ) → stored m a n (v % 256 ^ n) ≡ stored m a n v
+stored_low zero m a v = stored-zero m a (v % 256 ^ 0) ∙ sym (stored-zero m a v)
+stored_low (suc n) m a v =
+    let low : ℕ = v % 256 ^ suc n in
+    let some : 0 < 256 ^ n = one-le-pow n 256 (omega arith) in
+    let parts : low ≡ (v / 256 % 256 ^ n) * 256 + v % 256 = ap (λ k. v % k) (pow-suc 256 n) ∙ mod-mul v {m = 256 ^ n} {c = 256} some (omega arith) in
+    let first : low % 256 ≡ v % 256 = omega (arith, parts) in
+    let rest : low / 256 ≡ v / 256 % 256 ^ n = omega (arith, parts) in
+    stored-suc m a n low
+    ∙ ap (λ b. stored (with_byte m (address a) b) (a + 1) n (low / 256)) first
+    ∙ ap (λ x. stored (with_byte m (address a) (v % 256)) (a + 1) n x) rest
+    ∙ stored_low n (with_byte m (address a) (v % 256)) (a + 1) (v / 256)
+    ∙ sym (stored-suc m a n v)
 
 -- what was done was refused nowhere
 pub done_is : {A : Type 0} (o : Option ℕ) (kind : Kind) (x y : A) → Ok x ≡ done_unless o kind y → (o ≡ None) × (x ≡ y)
@@ -138,7 +153,7 @@ module _ (m : Memory) (a : ℕ) (word : a < 2 ^ 64) (fits : a % page_size + 16 �
     couple_stored granted v low high left is log_is = λ w after.
         let made : stored (stored m a 8 (read_x c t)) (address (a + 8)) 8 (read_x c u) ≡ left =
         ap (λ x. stored (stored m a 8 x) (address (a + 8)) 8 (read_x c u)) low
-        ∙ ap (λ (x : Memory). stored x (address (a + 8)) 8 (read_x c u)) (low_8 m a v)
+        ∙ ap (λ (x : Memory). stored x (address (a + 8)) 8 (read_x c u)) (stored_low 8 m a v)
         ∙ ap (λ x. stored (stored m a 8 v) x 8 (read_x c u)) near
         ∙ ap (λ x. stored (stored m a 8 v) (a + 8) 8 x) high
         ∙ sym (stored_split 8 8 m a v)

@@ -1,3 +1,2 @@
 pub mod AtOnceRows
 pub mod Couples
-pub mod SameAccess

@@ -1,11 +1,11 @@
 -- What a load or store leaves, by how the function that does it ends.
-use Rattle.std.specs.Prelude.{ℕ, if◌then◌else◌, List, Result, Ok, Err}
+use Rattle.std.specs.Prelude.{ℕ, if◌then◌else◌, List, Option, Some, None, Result, Ok, Err}
 use Rattle.emu_model.specs.declared.access.Access.{Access}
 use Rattle.emu_model.specs.declared.trap.Effect.{Effect}
 use Rattle.emu_model.specs.declared.trap.Effect.TheVariants.{Next, Trap as Trapping}
 use Rattle.emu_model.specs.declared.trap.Trap.{Trap}
 use Rattle.a64_effects.specs.declared.transfer.Transfer.{Transfer}
-use Rattle.a64_effects.specs.LoadStore.{is_vector}
+use Rattle.a64_effects.specs.LoadStore.{is_vector, unchanged, written_back}
 use Rattle.emu_model.specs.Access.{Memory}
 use Rattle.emu_model.specs.State.{Core, Vectors}
 use Rattle.emu_model.specs.Done.{Done}
@@ -35,3 +35,8 @@ ended r c v m accesses = record { core = c; vectors = v; memory = m; accesses = 
 -- an access that no test refused, with what comes after it
 abbrev pub done_with : (Core → Core) → Core → Vectors → Memory → List Access → Done
 done_with after c v m accesses = record { core = after c; vectors = v; memory = m; accesses = accesses; effect = Next }
+
+-- what comes behind an access: nothing, or an address is written back to the base
+abbrev pub behind : ℕ → Option ℕ → Core → Core
+behind rn None = unchanged
+behind rn (Some a) = written_back rn a

@@ -1,6 +1,6 @@
 //! Loads and stores of the same bytes as one step, at multiples of their size. Each step is done as a whole, so the
 //! order asks for nothing.
-ghost use Rattle.std.specs.Prelude.{◌≡◌, ◌≤◌, Bool, [], true, None, MatchResult};
+ghost use Rattle.std.specs.Prelude.{◌≡◌, ◌≤◌, Bool, [], None, MatchResult};
 ghost use Rattle.a64_insn.specs.declared.form.A64Form.{A64Form};
 ghost use Rattle.emu_model.specs.declared.access.Kind.{Kind};
 ghost use Rattle.emu_model.specs.declared.trap.Effect.{Effect};
@@ -10,47 +10,18 @@ ghost use Rattle.emu_model.specs.State.{Core as CoreState, Vectors};
 ghost use Rattle.a64_effects.specs.Atomic as step;
 ghost use Rattle.a64_effects.specs.Groups.{load_store};
 ghost use Rattle.a64_flow.specs.Ends.{ended};
-ghost use Rattle.a64_flow.specs.Groups.{is_atomic};
 
 use crate::alignment::test_multiple;
 use crate::numbers::bytes_of;
-use a64_insn::{A64, A64Form, AtomicOp};
+use a64_insn::AtomicOp;
 use core_regs::{Core, Trap, TrapKind};
 use emu_bits::{Reg, U, low_bits, sext};
 use guest_mem::element_access::{store, test_sp};
 use guest_mem::{Access, AccessLog, Kind, Mem};
 
-/// Loads the bytes at an address to a register, and stores what the row makes of them there.
-pub(crate) fn exec(core: &mut Core, mem: &mut Mem, log: &mut AccessLog, i: &A64) -> Result<(), Trap>
-    requires own { is_atomic i.now ≡ true }
-    requires empty { log.old.items ≡ [] }
-    ensures done { (v : Vectors) → load_store i.now core.old v mem.old.memory
-        ≡ ended result core.new v mem.new.memory log.new.items }
-    ensures marks { mem.new.marks ≡ mem.old.marks }
-{
-    match *i.form() {
-        A64Form::Atomic {
-            op,
-            size,
-            rs,
-            rn,
-            rt,
-            ..
-        } => atomic(core, mem, log, op, size, rs, rn, rt),
-        A64Form::CompareSwap {
-            size,
-            rs,
-            rn,
-            rt,
-            ..
-        } => compare_swap(core, mem, log, size, rs, rn, rt),
-        _ => Ok(()),
-    }
-}
-
 /// `ldadd`, `ldclr`, `ldeor`, `ldset`, `ldsmax`, `ldsmin`, `ldumax`, `ldumin`, `swp`: Rt gets the old value, and memory
 /// what op makes of it and Rs.
-fn atomic(
+pub(crate) fn atomic(
     core: &mut Core,
     mem: &mut Mem,
     log: &mut AccessLog,
@@ -77,7 +48,7 @@ fn atomic(
 }
 
 /// `cas`: Rs gets the old value, and memory Rt where that is what Rs had.
-fn compare_swap(
+pub(crate) fn compare_swap(
     core: &mut Core,
     mem: &mut Mem,
     log: &mut AccessLog,

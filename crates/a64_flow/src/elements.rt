@@ -136,33 +136,6 @@ pub(crate) fn single(
     }
 }
 
-/// Stores two registers, one behind the other. The usual number of bytes has the code for itself.
-#[inline(always)]
-fn store_couple_sized(
-    core: &Core,
-    vec: &VecRegs,
-    mem: &mut Mem,
-    log: &mut AccessLog,
-    t: Transfer,
-    rt: Reg,
-    rt2: Reg,
-    address: u64,
-    n: u32,
-) -> Result<(), Trap>
-    requires some { 1 ≤ n }
-    requires most { n ≤ 16 }
-    requires empty { log.old.items ≡ [] }
-    ensures done { (after : CoreState → CoreState) → table.stored_to t
-        (reach mem.old.memory Kind.Write (table.elements_from (rt ∷ rt2 ∷ []) address n)) after core.now vec.now
-        mem.old.memory ≡ followed_by after result core.now vec.now mem.new.memory log.new.items }
-    ensures marks { mem.new.marks ≡ mem.old.marks }
-{
-    match n {
-        8 => store_couple(core, vec, mem, log, t, rt, rt2, address, n),
-        _ => store_couple(core, vec, mem, log, t, rt, rt2, address, n),
-    }
-}
-
 /// Stores two registers, one behind the other.
 #[inline(always)]
 #[tactic(auto, using(emu_model::specs::AccessLaws::refused_stored))]
@@ -189,34 +162,6 @@ fn store_couple(
     let second = stored_value(core, vec, t, rt2);
     store_here(mem, log, first, address, n)?;
     store_here(mem, log, second, address.wrapping_add(n as u64), n)
-}
-
-/// Loads two registers, one behind the other, or none. The usual number of bytes has the code for itself.
-#[inline(always)]
-fn load_couple_sized(
-    core: &mut Core,
-    vec: &mut VecRegs,
-    mem: &mut Mem,
-    log: &mut AccessLog,
-    t: Transfer,
-    rt: Reg,
-    rt2: Reg,
-    address: u64,
-    n: u32,
-) -> Result<(), Trap>
-    requires some { 1 ≤ n }
-    requires most { n ≤ greatest_of t }
-    requires size { IsLowSize (8 * n) }
-    requires empty { log.old.items ≡ [] }
-    ensures done { (after : CoreState → CoreState) → table.loaded_to t
-        (reach mem.old.memory Kind.Read (table.elements_from (rt ∷ rt2 ∷ []) address n)) after core.old vec.old
-        mem.old.memory ≡ followed_by after result core.new vec.new mem.new.memory log.new.items }
-    ensures marks { mem.new.marks ≡ mem.old.marks }
-{
-    match n {
-        8 => load_couple(core, vec, mem, log, t, rt, rt2, address, n),
-        _ => load_couple(core, vec, mem, log, t, rt, rt2, address, n),
-    }
 }
 
 /// Loads two registers, one behind the other, or none.
@@ -249,7 +194,7 @@ fn load_couple(
 }
 
 /// Stores or loads two registers, one behind the other. A store that is refused at the second has stored the first; a
-/// load that is refused changes neither.
+/// load that is refused changes neither. The arms of a store read alike: each is compiled for its own size of access.
 pub(crate) fn couple(
     core: &mut Core,
     vec: &mut VecRegs,
@@ -271,9 +216,12 @@ pub(crate) fn couple(
     ensures marks { mem.new.marks ≡ mem.old.marks }
 {
     match t {
-        Transfer::Store => store_couple_sized(core, vec, mem, log, t, rt, rt2, address, n),
-        Transfer::Load => load_couple_sized(core, vec, mem, log, t, rt, rt2, address, n),
-        Transfer::StoreVector => store_couple(core, vec, mem, log, t, rt, rt2, address, n),
+        Transfer::Store | Transfer::StoreVector => match n {
+            16 => store_couple(core, vec, mem, log, t, rt, rt2, address, n),
+            8 => store_couple(core, vec, mem, log, t, rt, rt2, address, n),
+            4 => store_couple(core, vec, mem, log, t, rt, rt2, address, n),
+            _ => store_couple(core, vec, mem, log, t, rt, rt2, address, n),
+        },
         _ => load_couple(core, vec, mem, log, t, rt, rt2, address, n),
     }
 }

@@ -4,24 +4,27 @@
 mod alignment;
 mod at_once;
 mod atomic;
-mod branches;
 mod elements;
 mod exclusive;
 mod fields;
-mod general;
-mod indexed;
+mod moves;
 mod numbers;
-mod offsets;
 mod pairs;
 mod rows;
 mod singles;
+mod system;
 mod unrefused;
 
 ghost use Rattle.std.specs.Prelude.{◌≡◌, ◌||◌, [], true};
 ghost use Rattle.a64_effects.specs.Groups.{is_flow, is_load_store};
 ghost use Rattle.a64_effects.specs.Effects.{performed};
+ghost use Rattle.a64_operations.specs.Groups.{has_operation};
+ghost use Rattle.emu_model.specs.Access.{Memory};
+ghost use Rattle.emu_model.specs.Done.{quietly};
+ghost use Rattle.emu_model.specs.State.{Vectors};
 
 use a64_insn::{A64, A64Form};
+use a64_perform::perform_form;
 pub use at_once::tried;
 use core_regs::{Core, Effect};
 use guest_mem::{AccessLog, Mem};
@@ -50,25 +53,32 @@ pub fn exec(
     ensures marks { mem.new.marks ≡ mem.old.marks }
 {
     match *i.form() {
-        A64Form::Branch { op, imm26 } => branches::branch(core, op, imm26),
-        A64Form::BranchCond { imm19, cond } => branches::branch_cond(core, imm19, cond),
-        A64Form::Compare { op, sf, imm19, rt } => branches::compare(core, op, sf, imm19, rt),
-        A64Form::Test {
-            op,
-            b5,
-            b40,
-            imm14,
-            rt,
-        } => branches::test(core, op, b5, b40, imm14, rt),
-        A64Form::BranchReg { op, rn } => branches::branch_reg(core, op, rn),
-        A64Form::Except { op, imm16 } => branches::except(core, op, imm16),
-        A64Form::Hint { .. } => Effect::Next,
-        A64Form::Barrier { op, .. } => branches::barrier(core, op),
-        A64Form::ReadSys { op, rt } => branches::read_sys(core, op, rt),
-        A64Form::WriteSys { op, rt } => branches::write_sys(core, op, rt),
+        A64Form::Except { op, imm16 } => system::except(core, op, imm16),
+        A64Form::Barrier { op, .. } => system::barrier(core, op),
+        A64Form::ReadSys { op, rt } => system::read_sys(core, op, rt),
+        A64Form::WriteSys { op, rt } => system::write_sys(core, op, rt),
+        A64Form::Branch { .. } => by_operation(core, i),
+        A64Form::BranchCond { .. } => by_operation(core, i),
+        A64Form::Compare { .. } => by_operation(core, i),
+        A64Form::Test { .. } => by_operation(core, i),
+        A64Form::BranchReg { .. } => by_operation(core, i),
+        A64Form::Hint { .. } => by_operation(core, i),
         _ => match rows::access(core, vec, mem, log, i) {
             Ok(()) => Effect::Next,
             Err(trap) => Effect::Trap(trap),
         },
+    }
+}
+
+/// A branch or a hint, by its operation. The form is copied for it, so that no other one has to lie in memory.
+#[inline(always)]
+fn by_operation(core: &mut Core, i: &A64) -> Effect
+    requires { has_operation i.now ≡ true }
+    ensures { (v : Vectors) → (m : Memory) → performed i.now core.old v m ≡ quietly core.new v m result }
+{
+    let form = *i.form();
+    match perform_form(core, &form) {
+        Some(effect) => effect,
+        None => unreachable!(),
     }
 }

@@ -1,10 +1,12 @@
 //! Sizes and addresses.
-ghost use Rattle.std.specs.Prelude.{◌≡◌, ◌≤◌, ◌*◌, ◌^◌};
+ghost use Rattle.std.specs.Prelude.{◌≡◌, ◌≤◌, ◌+◌, ◌*◌, ◌^◌};
+ghost use Rattle.emu_model.specs.Access.{address};
+ghost use Rattle.emu_model.specs.State.{read_x_sp};
+ghost use Rattle.a64_effects.specs.Flow.{branch_target, moved_address};
 ghost use Rattle.a64_effects.specs.LoadStore as table;
 ghost use Rattle.emu_bits.specs.Numbers.{extended};
 ghost use Rattle.vec_regs.specs.Packed.{IsLowSize};
 
-use crate::branches::offset;
 use core_regs::Core;
 use emu_bits::{Reg, U, extended, sext};
 
@@ -30,6 +32,14 @@ pub(crate) fn near(core: &Core, rn: Reg, imm9: U<9>) -> u64
     offset(core.x_sp(rn), sext(imm9.get() as u64, 9))
 }
 
+/// A base register and an offset in accesses of n bytes.
+pub(crate) fn scaled_near(core: &Core, rn: Reg, n: u32, imm12: U<12>) -> u64
+    requires { n ≤ 16 }
+    ensures { result ≡ address (read_x_sp core.now rn + n * imm12) }
+{
+    core.x_sp(rn).wrapping_add(u64::from(n * imm12.get()))
+}
+
 /// An index register, extended. `lsl` takes it as it is, as most indices are.
 fn index(ext: U<3>, v: u64) -> u64
     ensures { result ≡ extended ext v }
@@ -53,4 +63,20 @@ pub(crate) fn pair_near(core: &Core, rn: Reg, n: u32, imm7: U<7>) -> u64
     ensures { result ≡ table.pair_near core.now rn n imm7 }
 {
     offset(core.x_sp(rn), n as i64 * sext(imm7.get() as u64, 7))
+}
+
+/// An address moved by a signed number, modulo 2^64.
+fn offset(address: u64, by: i64) -> u64
+    ensures { result ≡ moved_address address by }
+{
+    address.wrapping_add_signed(by)
+}
+
+/// PC plus four times a signed field of n bits.
+pub(crate) fn target(core: &Core, imm: u32, n: u32) -> u64
+    requires some { 1 ≤ n }
+    requires most { n ≤ 32 }
+    ensures { result ≡ branch_target core.now n imm }
+{
+    offset(core.pc(), 4 * sext(imm as u64, n))
 }

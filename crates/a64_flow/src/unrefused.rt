@@ -1,7 +1,7 @@
 //! Accesses of one register that no test refuses. Each answers whether it was done: an answer with a trap would lie in
 //! memory, and take as long as the access.
 ghost use Rattle.std.specs.Prelude.{◌≡◌, ◌≤◌, ◌*◌, ◌∷◌, [], false, true, nat_eq};
-ghost use Rattle.emu_model.specs.State.{Core as CoreState, Vectors};
+ghost use Rattle.emu_model.specs.State.{Core as CoreState};
 ghost use Rattle.emu_model.specs.declared.access.Kind.{Kind};
 ghost use Rattle.emu_model.specs.Elements.{reach};
 ghost use Rattle.a64_effects.specs.LoadStore as table;
@@ -12,52 +12,31 @@ ghost use Rattle.vec_regs.specs.Packed.{IsLowSize};
 
 use crate::elements::{put_loaded, stored_value};
 use crate::fields::{access_bytes, transfer};
-use crate::general;
-use crate::singles::Single;
 use a64_effects::Transfer;
-use core_regs::{Core, Source, Target};
-use emu_bits::Reg;
+use core_regs::Core;
+use emu_bits::{Reg, U};
 use guest_mem::element_access::{load_here, store_here};
 use guest_mem::{AccessLog, Mem};
 use vec_regs::VecRegs;
 
-/// Loads or stores one general register, with zeros above, where no test refuses it, and answers whether it did. Else
-/// nothing is changed, and so it is with any other access.
-#[inline(always)]
-pub(crate) fn moved_general(core: &mut Core, mem: &mut Mem, log: &mut AccessLog, s: &Single) -> bool
-    requires { log.old.items ≡ [] }
-    ensures done { result ≡ true → (w : Vectors) → (after : CoreState → CoreState)
-        → transferred_by (one_transfer s.now.v s.now.size s.now.opc s.now.rn s.now.rt s.now.address after)
-        core.old w mem.old.memory
-        ≡ done_with after core.new w mem.new.memory log.new.items }
-    ensures core { result ≡ false → core.new ≡ core.old }
-    ensures memory { result ≡ false → mem.new.memory ≡ mem.old.memory }
-    ensures log { result ≡ false → log.new.items ≡ [] }
-    ensures marks { mem.new.marks ≡ mem.old.marks }
-{
-    if s.v || s.opc.get() >= 2 || is_misaligned(core, s.rn) {
-        return false;
-    }
-    if s.opc.get() == 0 {
-        general::stored(core, mem, log, s.size, Source::of(s.rt), s.address)
-    } else {
-        general::loaded(core, mem, log, s.size, Target::of(s.rt), s.address)
-    }
-}
-
-/// Loads or stores a vector register, or loads with copies of the top bit, where no test refuses it, and answers
-/// whether it did. Else nothing is changed, and so it is with any other access.
+/// Loads or stores one register where no test refuses it, and answers whether it did. Else nothing is changed, and so it
+/// is with a prefetch.
 #[inline(always)]
 pub(crate) fn moved(
     core: &mut Core,
     vec: &mut VecRegs,
     mem: &mut Mem,
     log: &mut AccessLog,
-    s: &Single,
+    v: bool,
+    size: U<2>,
+    opc: U<2>,
+    rn: Reg,
+    rt: Reg,
+    address: u64,
 ) -> bool
     requires { log.old.items ≡ [] }
     ensures done { result ≡ true → (after : CoreState → CoreState)
-        → transferred_by (one_transfer s.now.v s.now.size s.now.opc s.now.rn s.now.rt s.now.address after)
+        → transferred_by (one_transfer v size opc rn rt address after)
         core.old vec.old mem.old.memory
         ≡ done_with after core.new vec.new mem.new.memory log.new.items }
     ensures core { result ≡ false → core.new ≡ core.old }
@@ -66,26 +45,26 @@ pub(crate) fn moved(
     ensures log { result ≡ false → log.new.items ≡ [] }
     ensures marks { mem.new.marks ≡ mem.old.marks }
 {
-    if is_misaligned(core, s.rn) {
+    if is_misaligned(core, rn) {
         return false;
     }
-    let n = access_bytes(s.v, s.size, s.opc);
-    moved_rarely(
+    let n = access_bytes(v, size, opc);
+    moved_from_base(
         core,
         vec,
         mem,
         log,
-        transfer(s.v, s.size, s.opc),
-        s.rn,
-        s.rt,
-        s.address,
+        transfer(v, size, opc),
+        rn,
+        rt,
+        address,
         n,
     )
 }
 
-/// The same of a vector register, or of a load with copies of the top bit, where the base may be used.
+/// The same where the base may be used.
 #[inline(always)]
-fn moved_rarely(
+fn moved_from_base(
     core: &mut Core,
     vec: &mut VecRegs,
     mem: &mut Mem,
@@ -112,12 +91,14 @@ fn moved_rarely(
     ensures marks { mem.new.marks ≡ mem.old.marks }
 {
     match t {
-        Transfer::LoadSigned | Transfer::LoadSigned32 => loaded_signed(
+        Transfer::Load | Transfer::LoadSigned | Transfer::LoadSigned32 => loaded_general(
             core, vec, mem, log, t, rt, address, n,
         ),
-        Transfer::StoreVector => stored_vector(core, vec, mem, log, t, rt, address, n),
+        Transfer::Store | Transfer::StoreVector => stored_register(
+            core, vec, mem, log, t, rt, address, n,
+        ),
         Transfer::LoadVector => loaded_vector(core, vec, mem, log, t, rt, address, n),
-        Transfer::Store | Transfer::Load | Transfer::Prefetch => false,
+        Transfer::Prefetch => false,
     }
 }
 
@@ -132,9 +113,9 @@ fn is_misaligned(core: &Core, rn: Reg) -> bool
 // In the next three functions the arms read alike: each is compiled for its own size of access, so that the move is one
 // instruction of the host.
 
-/// Loads a general register with copies of the top bit. The rows share it.
+/// Loads a general register. The rows share it.
 #[inline(never)]
-fn loaded_signed(
+fn loaded_general(
     core: &mut Core,
     vec: &mut VecRegs,
     mem: &mut Mem,
@@ -166,9 +147,9 @@ fn loaded_signed(
     }
 }
 
-/// Stores a vector register. The rows share it.
+/// Stores a register. The rows share it.
 #[inline(never)]
-fn stored_vector(
+fn stored_register(
     core: &Core,
     vec: &VecRegs,
     mem: &mut Mem,
@@ -194,6 +175,8 @@ fn stored_vector(
         16 => stored(core, vec, mem, log, t, rt, address, n),
         8 => stored(core, vec, mem, log, t, rt, address, n),
         4 => stored(core, vec, mem, log, t, rt, address, n),
+        2 => stored(core, vec, mem, log, t, rt, address, n),
+        1 => stored(core, vec, mem, log, t, rt, address, n),
         _ => stored(core, vec, mem, log, t, rt, address, n),
     }
 }

@@ -20,9 +20,9 @@ use Rattle.a64_insn.specs.declared.ops.CompareOp.TheVariants.{Cbz, Cbnz}
 use Rattle.a64_insn.specs.declared.ops.TestOp.{TestOp}
 use Rattle.a64_insn.specs.declared.ops.TestOp.TheVariants.{Tbz as TestZero, Tbnz as TestOne}
 use Rattle.emu_bits.specs.declared.flags.Cond.{Cond}
-use Rattle.emu_bits.specs.declared.flags.Cond.TheVariants.{Eq, Ne, Cs, Cc, Mi, Pl, Hi, Ls, Ge, Lt, Gt, Le}
+use Rattle.emu_bits.specs.declared.flags.Cond.TheVariants.{Eq, Ne, Cs, Cc, Mi, Hi, Ls, Ge, Lt, Gt, Le}
 use Rattle.emu_bits.specs.Flags.{cond_holds}
-use Rattle.emu_bits.specs.Numbers.{extended}
+use Rattle.emu_bits.specs.Numbers.{extended, width_of}
 use Rattle.emu_bits.specs.Operations.{lsl, lsr, asr, shifted, replaced}
 use Rattle.emu_model.specs.declared.trap.Effect.TheVariants.{Next, Branch as Branching}
 use Rattle.emu_model.specs.Access.{address}
@@ -32,9 +32,40 @@ use Rattle.a64_effects.specs.declared.transfer.Transfer.TheVariants.{Store, Load
 use Rattle.a64_effects.specs.Flow.{moved_address, linked, branches_if, is_taken, is_taken_by, digit}
 use Rattle.a64_effects.specs.LoadStore.{unchanged, written_back, written_back_if, writes_back}
 use Rattle.a64_effects.specs.Operations.{Operation, computes, flows, transfers, one_transfer}
-use Rattle.a64_effects.specs.Scalar.{operand, operand_sp, adr_target, after_add, after_add_sp, after_logic_reg, after_logic_imm, selected_else, multiplied, of_two_sources}
+use Rattle.a64_effects.specs.Scalar.{operand, operand_sp, adr_target, after_add, after_add_sp, after_logic_reg}
+use Rattle.a64_effects.specs.Scalar.{after_logic_imm, selected_else, multiplied, of_two_sources}
 use Rattle.a64_operations.specs.declared.operation.Operation.{Operation as Ready}
-use Rattle.a64_operations.specs.declared.operation.Operation.TheVariants.{ByForm, Nothing, AddImmX, SubImmX, AddsImmX, SubsImmX, AddRegX, SubRegX, AddsRegX, SubsRegX, AddImmW, SubImmW, AddsImmW, SubsImmW, AddRegW, SubRegW, AddsRegW, SubsRegW, AddUxtw, AddSxtw, AndImmX, AndImmW, OrrImmX, OrrImmW, EorImmX, EorImmW, AndsImmX, AndsImmW, AndRegX, BicRegX, OrrRegX, OrnRegX, EorRegX, AndsRegX, AndRegW, BicRegW, OrrRegW, OrnRegW, EorRegW, AndsRegW, EorLsrW, Mov, MovkX, Adr, Adrp, UbfmX, SbfmX, UbfmW, SbfmW, LslvX, LsrvX, UdivX, MaddX, MsubX, CselX, CsincX, CsinvX, CsnegX, LslvW, LsrvW, UdivW, MaddW, MsubW, CselW, CsincW, CsinvW, CsnegW, B, Bl, BEq, BNe, BCs, BCc, BMi, BPl, BHi, BLs, BGe, BLt, BGt, BLe, CbzX, CbnzX, CbzW, CbnzW, Tbz, Tbnz, Br, Blr, LdrB, StrB, LdrH, StrH, LdrW, StrW, LdrX, StrX, Ldrsw, LdrBLsl, LdrBUxtw, LdrBSxtw, StrBLsl, LdrHLsl, StrHLsl, LdrWLsl, LdrWUxtw, LdrWSxtw, StrWLsl, LdrXLsl, LdrXUxtw, LdrXSxtw, StrXLsl, LdrswLsl, LdrBPost, StrBPost, LdrWPost, StrWPost, LdrXPost, StrXPost, LdrXPre, StrXPre, Ldp, Stp, LdpPost, StpPost, LdpPre, StpPre}
+use Rattle.a64_operations.specs.declared.operation.Operation.TheVariants.{ByForm, Nothing}
+use Rattle.a64_operations.specs.declared.operation.Operation.TheVariants.{AddImmX, SubImmX, AddsImmX, SubsImmX}
+use Rattle.a64_operations.specs.declared.operation.Operation.TheVariants.{AddRegX, SubRegX, AddsRegX, SubsRegX}
+use Rattle.a64_operations.specs.declared.operation.Operation.TheVariants.{AddImmW, SubImmW, AddsImmW, SubsImmW}
+use Rattle.a64_operations.specs.declared.operation.Operation.TheVariants.{AddRegW, SubRegW, AddsRegW, SubsRegW}
+use Rattle.a64_operations.specs.declared.operation.Operation.TheVariants.{AddLsr, AddUxtw, AddSxtw}
+use Rattle.a64_operations.specs.declared.operation.Operation.TheVariants.{AndImmX, AndImmW, OrrImmX, OrrImmW}
+use Rattle.a64_operations.specs.declared.operation.Operation.TheVariants.{EorImmX, EorImmW, AndsImmX, AndsImmW}
+use Rattle.a64_operations.specs.declared.operation.Operation.TheVariants.{AndRegX, BicRegX, OrrRegX, OrnRegX, EorRegX}
+use Rattle.a64_operations.specs.declared.operation.Operation.TheVariants.{AndsRegX, AndRegW, BicRegW, OrrRegW, OrnRegW}
+use Rattle.a64_operations.specs.declared.operation.Operation.TheVariants.{EorRegW, AndsRegW, EorLsrW}
+use Rattle.a64_operations.specs.declared.operation.Operation.TheVariants.{Mov, Movk, Adr, Adrp}
+use Rattle.a64_operations.specs.declared.operation.Operation.TheVariants.{UbfmX, SbfmX, UbfmW, SbfmW}
+use Rattle.a64_operations.specs.declared.operation.Operation.TheVariants.{LslvX, LsrvX, UdivX, MaddX, MsubX}
+use Rattle.a64_operations.specs.declared.operation.Operation.TheVariants.{CselX, CsincX, CsinvX, CsnegX}
+use Rattle.a64_operations.specs.declared.operation.Operation.TheVariants.{LslvW, LsrvW, UdivW, MaddW, MsubW}
+use Rattle.a64_operations.specs.declared.operation.Operation.TheVariants.{CselW, CsincW, CsinvW, CsnegW}
+use Rattle.a64_operations.specs.declared.operation.Operation.TheVariants.{B, Bl, BEq, BNe, BCs, BCc, BMi}
+use Rattle.a64_operations.specs.declared.operation.Operation.TheVariants.{BHi, BLs, BGe, BLt, BGt, BLe, BCond}
+use Rattle.a64_operations.specs.declared.operation.Operation.TheVariants.{CbzX, CbnzX, CbzW, CbnzW, Tbz, Tbnz}
+use Rattle.a64_operations.specs.declared.operation.Operation.TheVariants.{Br, Blr}
+use Rattle.a64_operations.specs.declared.operation.Operation.TheVariants.{LdrB, StrB, LdrH, StrH, LdrW, StrW}
+use Rattle.a64_operations.specs.declared.operation.Operation.TheVariants.{LdrX, StrX, Ldrsw}
+use Rattle.a64_operations.specs.declared.operation.Operation.TheVariants.{LdrBLsl, LdrBUxtw, LdrBSxtw, StrBLsl}
+use Rattle.a64_operations.specs.declared.operation.Operation.TheVariants.{LdrHLsl, StrHLsl}
+use Rattle.a64_operations.specs.declared.operation.Operation.TheVariants.{LdrWLsl, LdrWUxtw, LdrWSxtw, StrWLsl}
+use Rattle.a64_operations.specs.declared.operation.Operation.TheVariants.{LdrXLsl, LdrXUxtw, LdrXSxtw, StrXLsl}
+use Rattle.a64_operations.specs.declared.operation.Operation.TheVariants.{LdrswLsl}
+use Rattle.a64_operations.specs.declared.operation.Operation.TheVariants.{LdrBPost, StrBPost, LdrWPost, StrWPost}
+use Rattle.a64_operations.specs.declared.operation.Operation.TheVariants.{LdrXPost, StrXPost, LdrXPre, StrXPre}
+use Rattle.a64_operations.specs.declared.operation.Operation.TheVariants.{Ldp, Stp, LdpPost, StpPost, LdpPre, StpPre}
 
 -- ---- on registers alone
 
@@ -42,9 +73,9 @@ use Rattle.a64_operations.specs.declared.operation.Operation.TheVariants.{ByForm
 abbrev pub sum_imm : AddOp → ℕ → ℕ → ℕ → ℕ → Operation
 sum_imm op w d n imm = computes (λ c. after_add_sp op w d (operand_sp w c n) imm c)
 
--- a sum with a register that is moved left, or its difference
-abbrev pub sum_reg : AddOp → ℕ → ℕ → ℕ → ℕ → ℕ → Operation
-sum_reg op w d n m k = computes (λ c. after_add op w d (operand w c n) (lsl w (operand w c m) k) c)
+-- a sum with a register that is shifted, or its difference
+abbrev pub sum_reg : AddOp → ℕ → ℕ → ℕ → ℕ → ℕ → ℕ → Operation
+sum_reg op w shift d n m k = computes (λ c. after_add op w d (operand w c n) (shifted w shift (operand w c m) k) c)
 
 -- a sum with an extended register that is moved left
 abbrev pub sum_ext : ℕ → ℕ → ℕ → ℕ → ℕ → Operation
@@ -128,18 +159,19 @@ meaning_of (AddImmX d n imm) = sum_imm Add 64 d n imm
 meaning_of (SubImmX d n imm) = sum_imm Sub 64 d n imm
 meaning_of (AddsImmX d n imm) = sum_imm Adds 64 d n imm
 meaning_of (SubsImmX d n imm) = sum_imm Subs 64 d n imm
-meaning_of (AddRegX d n m amount) = sum_reg Add 64 d n m amount
-meaning_of (SubRegX d n m amount) = sum_reg Sub 64 d n m amount
-meaning_of (AddsRegX d n m amount) = sum_reg Adds 64 d n m amount
-meaning_of (SubsRegX d n m amount) = sum_reg Subs 64 d n m amount
+meaning_of (AddRegX d n m amount) = sum_reg Add 64 0 d n m amount
+meaning_of (SubRegX d n m amount) = sum_reg Sub 64 0 d n m amount
+meaning_of (AddsRegX d n m amount) = sum_reg Adds 64 0 d n m amount
+meaning_of (SubsRegX d n m amount) = sum_reg Subs 64 0 d n m amount
 meaning_of (AddImmW d n imm) = sum_imm Add 32 d n imm
 meaning_of (SubImmW d n imm) = sum_imm Sub 32 d n imm
 meaning_of (AddsImmW d n imm) = sum_imm Adds 32 d n imm
 meaning_of (SubsImmW d n imm) = sum_imm Subs 32 d n imm
-meaning_of (AddRegW d n m amount) = sum_reg Add 32 d n m amount
-meaning_of (SubRegW d n m amount) = sum_reg Sub 32 d n m amount
-meaning_of (AddsRegW d n m amount) = sum_reg Adds 32 d n m amount
-meaning_of (SubsRegW d n m amount) = sum_reg Subs 32 d n m amount
+meaning_of (AddRegW d n m amount) = sum_reg Add 32 0 d n m amount
+meaning_of (SubRegW d n m amount) = sum_reg Sub 32 0 d n m amount
+meaning_of (AddsRegW d n m amount) = sum_reg Adds 32 0 d n m amount
+meaning_of (SubsRegW d n m amount) = sum_reg Subs 32 0 d n m amount
+meaning_of (AddLsr sf d n m amount) = sum_reg Add (width_of sf) 1 d n m amount
 meaning_of (AddUxtw d n m amount) = sum_ext 2 d n m amount
 meaning_of (AddSxtw d n m amount) = sum_ext 6 d n m amount
 meaning_of (AndImmX d n low high) = logic_imm AndImm 64 d n (joined low high)
@@ -164,7 +196,7 @@ meaning_of (EorRegW d n m amount) = logic_reg Eor 32 0 d n m amount
 meaning_of (AndsRegW d n m amount) = logic_reg Ands 32 0 d n m amount
 meaning_of (EorLsrW d n m amount) = logic_reg Eor 32 1 d n m amount
 meaning_of (Mov d low high) = computes (λ c. with_x c d 64 (joined low high))
-meaning_of (MovkX d old hw imm) = computes (λ c. with_x c d 64 (replaced (read_x c old) (16 * hw) 16 imm))
+meaning_of (Movk sf d old hw imm) = computes (λ c. with_x c d (width_of sf) (replaced (read_x c old) (16 * hw) 16 imm))
 meaning_of (Adr d by) = address_near AdrByte d by
 meaning_of (Adrp d by) = address_near AdrPage d by
 meaning_of (UbfmX d n left right) = computes (λ c. with_x c d 64 (lsr (lsl 64 (operand 64 c n) left) right))
@@ -196,13 +228,13 @@ meaning_of (BNe by) = branch_if_flags Ne by
 meaning_of (BCs by) = branch_if_flags Cs by
 meaning_of (BCc by) = branch_if_flags Cc by
 meaning_of (BMi by) = branch_if_flags Mi by
-meaning_of (BPl by) = branch_if_flags Pl by
 meaning_of (BHi by) = branch_if_flags Hi by
 meaning_of (BLs by) = branch_if_flags Ls by
 meaning_of (BGe by) = branch_if_flags Ge by
 meaning_of (BLt by) = branch_if_flags Lt by
 meaning_of (BGt by) = branch_if_flags Gt by
 meaning_of (BLe by) = branch_if_flags Le by
+meaning_of (BCond cond by) = branch_if_flags cond by
 meaning_of (CbzX t by) = branch_if_operand Cbz 64 t by
 meaning_of (CbnzX t by) = branch_if_operand Cbnz 64 t by
 meaning_of (CbzW t by) = branch_if_operand Cbz 32 t by

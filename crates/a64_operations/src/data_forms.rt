@@ -1,5 +1,5 @@
 //! The operations of the data forms.
-ghost use Rattle.std.specs.Prelude.{◌≡◌, ◌+◌, ◌-◌, ◌<◌, ◌⊎◌, true, unwrap_or, nat_le, if◌then◌else◌};
+ghost use Rattle.std.specs.Prelude.{◌≡◌, ◌+◌, ◌-◌, ◌^◌, ◌<◌, ◌⊎◌, false, true, unwrap_or, nat_le, if◌then◌else◌};
 ghost use Rattle.emu_bits.specs.Bitmask.{bitmask_of};
 ghost use Rattle.emu_bits.specs.Fields.{bit};
 ghost use Rattle.emu_bits.specs.Numbers.{width_of};
@@ -8,6 +8,7 @@ ghost use Rattle.a64_insn.specs.declared.form.A64Form.{A64Form};
 ghost use Rattle.a64_insn.specs.declared.ops.AddOp.{AddOp};
 ghost use Rattle.a64_insn.specs.declared.ops.BitfieldOp.{BitfieldOp};
 ghost use Rattle.a64_effects.specs.Scalar as table;
+ghost use Rattle.a64_operations.specs.Groups.{is_on_registers};
 ghost use Rattle.a64_operations.specs.Meaning.{joined};
 ghost use Rattle.a64_operations.specs.Prepared.{Does, IsOf};
 
@@ -38,7 +39,8 @@ fn shifted_12(sh: bool, imm: U<12>) -> u32
 }
 
 pub(crate) fn add_imm(op: AddOp, sf: bool, sh: bool, imm12: U<12>, rn: Reg, rd: Reg) -> Operation
-    ensures { IsOf result (A64Form.AddImm op sf sh imm12 rn rd) }
+    ensures answers { is_on_registers result ≡ true }
+    ensures done { IsOf result (A64Form.AddImm op sf sh imm12 rn rd) }
 {
     let imm = if sh { imm12.get() << 12 } else { imm12.get() };
     let n = RegOrSp::of(rn);
@@ -97,10 +99,22 @@ pub(crate) fn add_reg(
 ) -> Operation
     ensures { IsOf result (A64Form.AddReg op sf shift rm amount rn rd) }
 {
+    let (d, n, m) = (Target::of(rd), Source::of(rn), Source::of(rm));
+    if shift.get() == 1 {
+        return match op {
+            AddOp::Add => Operation::AddLsr {
+                sf,
+                d,
+                n,
+                m,
+                amount,
+            },
+            AddOp::Sub | AddOp::Adds | AddOp::Subs => Operation::ByForm,
+        };
+    }
     if shift.get() != 0 {
         return Operation::ByForm;
     }
-    let (d, n, m) = (Target::of(rd), Source::of(rn), Source::of(rm));
     match (op, sf) {
         (AddOp::Add, true) => Operation::AddRegX { d, n, m, amount },
         (AddOp::Add, false) => Operation::AddRegW { d, n, m, amount },
@@ -156,29 +170,33 @@ pub(crate) fn logic_imm(
     rn: Reg,
     rd: Reg,
 ) -> Operation
-    ensures { IsOf result (A64Form.LogicImm op sf n immr imms rn rd) }
+    ensures answers { is_on_registers result ≡ true }
+    ensures done { IsOf result (A64Form.LogicImm op sf n immr imms rn rd) }
 {
     let mask = mask_of(sf, n, immr, imms);
     if sf {
         logic_imm_x(op, mask, rn, rd)
-    } else if mask < 0x1_0000_0000 {
-        logic_imm_w(op, mask as u32, rn, rd)
     } else {
-        Operation::ByForm
+        logic_imm_w(op, mask as u32, rn, rd)
     }
 }
 
 /// The bitmask of a form. Each form has one.
 fn mask_of(sf: bool, n: bool, immr: U<6>, imms: U<6>) -> u64
-    ensures { result ≡ unwrap_or (bitmask_of (width_of sf) (bit n) immr imms) 0 }
+    ensures value { result ≡ unwrap_or (bitmask_of (width_of sf) (bit n) immr imms) 0 }
+    ensures small { sf ≡ false → result < 2 ^ 32 }
 {
-    let width = if sf { 64 } else { 32 };
-    bitmask(n, immr.get(), imms.get(), width).unwrap_or(0)
+    if sf {
+        bitmask(n, immr.get(), imms.get(), 64).unwrap_or(0)
+    } else {
+        bitmask(n, immr.get(), imms.get(), 32).unwrap_or(0)
+    }
 }
 
 /// The same at 64 bits.
 fn logic_imm_x(op: LogicImmOp, mask: u64, rn: Reg, rd: Reg) -> Operation
-    ensures { Does result (λ c. table.after_logic_imm op 64 rd (table.operand 64 c rn) mask c) }
+    ensures answers { is_on_registers result ≡ true }
+    ensures done { Does result (λ c. table.after_logic_imm op 64 rd (table.operand 64 c rn) mask c) }
 {
     let n = Source::of(rn);
     let (low, high) = halves(mask);
@@ -212,7 +230,8 @@ fn logic_imm_x(op: LogicImmOp, mask: u64, rn: Reg, rd: Reg) -> Operation
 
 /// The same at 32 bits.
 fn logic_imm_w(op: LogicImmOp, mask: u32, rn: Reg, rd: Reg) -> Operation
-    ensures { Does result (λ c. table.after_logic_imm op 32 rd (table.operand 32 c rn) mask c) }
+    ensures answers { is_on_registers result ≡ true }
+    ensures done { Does result (λ c. table.after_logic_imm op 32 rd (table.operand 32 c rn) mask c) }
 {
     let n = Source::of(rn);
     match op {
@@ -282,7 +301,8 @@ pub(crate) fn logic_reg(
 }
 
 pub(crate) fn move_wide(op: MoveWideOp, sf: bool, hw: U<2>, imm16: U<16>, rd: Reg) -> Operation
-    ensures { IsOf result (A64Form.MoveWide op sf hw imm16 rd) }
+    ensures answers { is_on_registers result ≡ true }
+    ensures done { IsOf result (A64Form.MoveWide op sf hw imm16 rd) }
 {
     let w = if sf { 64 } else { 32 };
     let place = 16 * hw.get();
@@ -290,24 +310,20 @@ pub(crate) fn move_wide(op: MoveWideOp, sf: bool, hw: U<2>, imm16: U<16>, rd: Re
     match op {
         MoveWideOp::Movn => moved(rd, complement(w, shifted)),
         MoveWideOp::Movz => moved(rd, shifted),
-        MoveWideOp::Movk => {
-            if sf {
-                Operation::MovkX {
-                    d: Target::of(rd),
-                    old: Source::of(rd),
-                    hw,
-                    imm: imm16.get() as u16,
-                }
-            } else {
-                Operation::ByForm
-            }
-        }
+        MoveWideOp::Movk => Operation::Movk {
+            sf,
+            d: Target::of(rd),
+            old: Source::of(rd),
+            hw,
+            imm: imm16.get() as u16,
+        },
     }
 }
 
 /// A register with a number.
 fn moved(rd: Reg, v: u64) -> Operation
-    ensures { Does result (λ c. with_x c rd 64 v) }
+    ensures answers { is_on_registers result ≡ true }
+    ensures done { Does result (λ c. with_x c rd 64 v) }
 {
     let (low, high) = halves(v);
     Operation::Mov {
@@ -318,7 +334,8 @@ fn moved(rd: Reg, v: u64) -> Operation
 }
 
 pub(crate) fn adr(op: AdrOp, immlo: U<2>, immhi: U<19>, rd: Reg) -> Operation
-    ensures { IsOf result (A64Form.Adr op immlo immhi rd) }
+    ensures answers { is_on_registers result ≡ true }
+    ensures done { IsOf result (A64Form.Adr op immlo immhi rd) }
 {
     let by = distance(immhi.get() * 4 + immlo.get(), 21);
     let d = Target::of(rd);
@@ -399,7 +416,8 @@ fn moves(w: u32, r: u32, s: u32) -> (U<6>, U<6>)
 }
 
 pub(crate) fn select(op: SelectOp, sf: bool, rm: Reg, cond: U<4>, rn: Reg, rd: Reg) -> Operation
-    ensures { IsOf result (A64Form.Select op sf rm cond rn rd) }
+    ensures answers { is_on_registers result ≡ true }
+    ensures done { IsOf result (A64Form.Select op sf rm cond rn rd) }
 {
     let (d, n, m) = (Target::of(rd), Source::of(rn), Source::of(rm));
     let cond = Cond::of_number(cond);
@@ -416,7 +434,8 @@ pub(crate) fn select(op: SelectOp, sf: bool, rm: Reg, cond: U<4>, rn: Reg, rd: R
 }
 
 pub(crate) fn mul_add(op: MulAddOp, sf: bool, rm: Reg, ra: Reg, rn: Reg, rd: Reg) -> Operation
-    ensures { IsOf result (A64Form.MulAdd op sf rm ra rn rd) }
+    ensures answers { is_on_registers result ≡ true }
+    ensures done { IsOf result (A64Form.MulAdd op sf rm ra rn rd) }
 {
     let (d, n, m, a) = (
         Target::of(rd),

@@ -9,7 +9,7 @@ use emu_bits::U;
 
 /// The 16 bits from a place on replaced.
 #[inline(always)]
-pub(crate) fn with_halfword(old: u64, place: u32, imm: u16) -> u64
+pub fn with_halfword(old: u64, place: u32, imm: u16) -> u64
     requires { place ≤ 48 }
     ensures { result ≡ bits.replaced old place 16 imm }
 {
@@ -19,7 +19,7 @@ pub(crate) fn with_halfword(old: u64, place: u32, imm: u16) -> u64
 
 /// To the right, with copies of the top bit above.
 #[inline(always)]
-pub(crate) fn signed_right(w: u32, v: u64, amount: U<6>) -> u64
+pub fn signed_right(w: u32, v: u64, amount: U<6>) -> u64
     requires width { (w ≡ 32) ⊎ (w ≡ 64) }
     requires within { v < 2 ^ w }
     ensures value { result ≡ bits.asr w v amount }
@@ -34,7 +34,7 @@ pub(crate) fn signed_right(w: u32, v: u64, amount: U<6>) -> u64
 
 /// 0 where the second is 0.
 #[inline(always)]
-pub(crate) fn quotient(a: u64, b: u64) -> u64
+pub fn quotient(a: u64, b: u64) -> u64
     ensures { result ≡ bits.unsigned_quotient a b }
 {
     if b == 0 { 0 } else { a / b }
@@ -42,7 +42,7 @@ pub(crate) fn quotient(a: u64, b: u64) -> u64
 
 /// So many pages of 4,096 bytes from that of PC.
 #[inline(always)]
-pub(crate) fn page_target(core: &Core, by: i32) -> u64
+pub fn page_target(core: &Core, by: i32) -> u64
     ensures { result ≡ table.adr_target AdrOp.Adrp core.now.pc by }
 {
     (core.pc() / 4096 * 4096).wrapping_add_signed(4096 * by as i64)

@@ -1,7 +1,8 @@
 //! The operations of the branches.
-ghost use Rattle.std.specs.Prelude.{◌≡◌, ◌≤◌};
+ghost use Rattle.std.specs.Prelude.{◌≡◌, ◌≤◌, true};
 ghost use Rattle.emu_bits.specs.Numbers.{signed};
 ghost use Rattle.a64_insn.specs.declared.form.A64Form.{A64Form};
+ghost use Rattle.a64_operations.specs.Groups.{is_on_registers};
 ghost use Rattle.a64_operations.specs.Prepared.{IsOf};
 
 use crate::operation::Operation;
@@ -19,7 +20,8 @@ pub(crate) fn distance(imm: u32, n: u32) -> i32
 }
 
 pub(crate) fn branch(op: BranchOp, imm26: U<26>) -> Operation
-    ensures { IsOf result (A64Form.Branch op imm26) }
+    ensures answers { is_on_registers result ≡ true }
+    ensures done { IsOf result (A64Form.Branch op imm26) }
 {
     let by = 4 * distance(imm26.get(), 26);
     match op {
@@ -29,16 +31,17 @@ pub(crate) fn branch(op: BranchOp, imm26: U<26>) -> Operation
 }
 
 pub(crate) fn branch_cond(imm19: U<19>, cond: U<4>) -> Operation
-    ensures { IsOf result (A64Form.BranchCond imm19 cond) }
+    ensures answers { is_on_registers result ≡ true }
+    ensures done { IsOf result (A64Form.BranchCond imm19 cond) }
 {
     let by = 4 * distance(imm19.get(), 19);
-    match Cond::of_number(cond) {
+    let cond = Cond::of_number(cond);
+    match cond {
         Cond::Eq => Operation::BEq { by },
         Cond::Ne => Operation::BNe { by },
         Cond::Cs => Operation::BCs { by },
         Cond::Cc => Operation::BCc { by },
         Cond::Mi => Operation::BMi { by },
-        Cond::Pl => Operation::BPl { by },
         Cond::Hi => Operation::BHi { by },
         Cond::Ls => Operation::BLs { by },
         Cond::Ge => Operation::BGe { by },
@@ -46,12 +49,13 @@ pub(crate) fn branch_cond(imm19: U<19>, cond: U<4>) -> Operation
         Cond::Gt => Operation::BGt { by },
         Cond::Le => Operation::BLe { by },
         Cond::Al | Cond::Nv => Operation::B { by },
-        Cond::Vs | Cond::Vc => Operation::ByForm,
+        Cond::Pl | Cond::Vs | Cond::Vc => Operation::BCond { cond, by },
     }
 }
 
 pub(crate) fn compare(op: CompareOp, sf: bool, imm19: U<19>, rt: Reg) -> Operation
-    ensures { IsOf result (A64Form.Compare op sf imm19 rt) }
+    ensures answers { is_on_registers result ≡ true }
+    ensures done { IsOf result (A64Form.Compare op sf imm19 rt) }
 {
     let (t, by) = (Source::of(rt), 4 * distance(imm19.get(), 19));
     match (op, sf) {
@@ -63,7 +67,8 @@ pub(crate) fn compare(op: CompareOp, sf: bool, imm19: U<19>, rt: Reg) -> Operati
 }
 
 pub(crate) fn test(op: TestOp, b5: bool, b40: U<5>, imm14: U<14>, rt: Reg) -> Operation
-    ensures { IsOf result (A64Form.Test op b5 b40 imm14 rt) }
+    ensures answers { is_on_registers result ≡ true }
+    ensures done { IsOf result (A64Form.Test op b5 b40 imm14 rt) }
 {
     let (t, by) = (Source::of(rt), 4 * distance(imm14.get(), 14));
     let place = U::at(32 * u32::from(b5) + b40.get(), 0);
@@ -74,7 +79,8 @@ pub(crate) fn test(op: TestOp, b5: bool, b40: U<5>, imm14: U<14>, rt: Reg) -> Op
 }
 
 pub(crate) fn branch_reg(op: BranchRegOp, rn: Reg) -> Operation
-    ensures { IsOf result (A64Form.BranchReg op rn) }
+    ensures answers { is_on_registers result ≡ true }
+    ensures done { IsOf result (A64Form.BranchReg op rn) }
 {
     let n = Source::of(rn);
     match op {

@@ -1,4 +1,6 @@
 //! The operation of a form.
+ghost use Rattle.std.specs.Prelude.{◌≡◌, true};
+ghost use Rattle.a64_operations.specs.Groups.{has_operation, is_on_registers};
 ghost use Rattle.a64_operations.specs.Prepared.{IsOf};
 
 use crate::data_forms::{
@@ -10,9 +12,11 @@ use crate::memory_forms::{offset, pair, post, pre, register, unsigned};
 use crate::operation::Operation;
 use a64_insn::A64Form;
 
-/// What a form does, or that it is done by its form.
-pub fn operation_of(form: &A64Form) -> Operation
-    ensures { IsOf result form.now }
+/// What a form does, or that it is done by its form. `Site` names the place of the call: each has the function for
+/// itself, so that it is compiled into what reads the word.
+pub fn operation_of<Site>(form: &A64Form) -> Operation
+    ensures answers { has_operation form.now ≡ true → is_on_registers result ≡ true }
+    ensures done { IsOf result form.now }
 {
     match *form {
         A64Form::Hint { .. } => Operation::Nothing,

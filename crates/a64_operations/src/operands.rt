@@ -1,5 +1,6 @@
 //! Operands of 64 or 32 bits, and results.
 ghost use Rattle.std.specs.Prelude.{◌≡◌, ◌<◌, ◌+◌, ◌*◌, ◌%◌, ◌^◌, ◌⊎◌};
+ghost use Rattle.emu_bits.specs.Numbers as numbers;
 ghost use Rattle.emu_bits.specs.Numbers.{extended};
 ghost use Rattle.emu_bits.specs.Operations as bits;
 ghost use Rattle.emu_model.specs.State.{read_x};
@@ -8,6 +9,15 @@ ghost use Rattle.a64_operations.specs.Meaning as ready;
 
 use core_regs::{Core, RegOrSp, Source};
 use emu_bits::U;
+
+/// The bits of a register: 64 where sf is set, else 32.
+#[inline(always)]
+pub fn width_of(sf: bool) -> u32
+    ensures value { result ≡ numbers.width_of sf }
+    ensures width { (result ≡ 32) ⊎ (result ≡ 64) }
+{
+    if sf { 64 } else { 32 }
+}
 
 /// A number modulo 2^w, with no mask to be made.
 #[inline(always)]
@@ -21,7 +31,7 @@ fn word(v: u64, w: u32) -> u64
 
 /// The low w bits of a register. Register 31 reads 0.
 #[inline(always)]
-pub(crate) fn operand(w: u32, core: &Core, r: Source) -> u64
+pub fn operand(w: u32, core: &Core, r: Source) -> u64
     requires { (w ≡ 32) ⊎ (w ≡ 64) }
     ensures value { result ≡ table.operand w core.now r }
     ensures small { result < 2 ^ w }
@@ -31,7 +41,7 @@ pub(crate) fn operand(w: u32, core: &Core, r: Source) -> u64
 
 /// The low w bits of a register. Register 31 reads SP.
 #[inline(always)]
-pub(crate) fn operand_sp(w: u32, core: &Core, r: RegOrSp) -> u64
+pub fn operand_sp(w: u32, core: &Core, r: RegOrSp) -> u64
     requires { (w ≡ 32) ⊎ (w ≡ 64) }
     ensures value { result ≡ table.operand_sp w core.now r }
     ensures small { result < 2 ^ w }
@@ -41,12 +51,20 @@ pub(crate) fn operand_sp(w: u32, core: &Core, r: RegOrSp) -> u64
 
 /// The low w bits of a register, moved left.
 #[inline(always)]
-pub(crate) fn moved_left(w: u32, core: &Core, r: Source, amount: U<6>) -> u64
+pub fn moved_left(w: u32, core: &Core, r: Source, amount: U<6>) -> u64
     requires { (w ≡ 32) ⊎ (w ≡ 64) }
     ensures value { result ≡ bits.lsl w (table.operand w core.now r) amount }
     ensures small { result < 2 ^ w }
 {
     word(operand(w, core, r) << amount.get(), w)
+}
+
+/// The 64 bits as they are.
+#[inline(always)]
+pub fn uxtx(core: &Core, r: Source) -> u64
+    ensures { result ≡ extended 3 (read_x core.now r) }
+{
+    core.source(r)
 }
 
 /// The low 32 bits with zeros above.
@@ -67,7 +85,7 @@ pub fn sxtw(core: &Core, r: Source) -> u64
 
 /// The number of two halves.
 #[inline(always)]
-pub(crate) fn joined(low: u32, high: u32) -> u64
+pub fn joined(low: u32, high: u32) -> u64
     ensures { result ≡ ready.joined low high }
 {
     low as u64 + ((high as u64) << 32)

@@ -114,6 +114,14 @@ pub enum Operation {
         m: Source,
         amount: U<6>,
     },
+    /// `add Rd, Rn, Rm, lsr #amount`, with sf X registers.
+    AddLsr {
+        sf: bool,
+        d: Target,
+        n: Source,
+        m: Source,
+        amount: U<6>,
+    },
     /// `add Xd|SP, Xn|SP, Wm, uxtw #amount`.
     AddUxtw {
         d: RegOrSp,
@@ -277,8 +285,9 @@ pub enum Operation {
         low: u32,
         high: u32,
     },
-    /// `movk Xd, #imm, lsl #(16 * hw)`.
-    MovkX {
+    /// `movk Rd, #imm, lsl #(16 * hw)`: of 64 bits where sf is set, else of 32.
+    Movk {
+        sf: bool,
         d: Target,
         old: Source,
         hw: U<2>,
@@ -470,10 +479,6 @@ pub enum Operation {
     BMi {
         by: i32,
     },
-    /// `b.pl target`.
-    BPl {
-        by: i32,
-    },
     /// `b.hi target`.
     BHi {
         by: i32,
@@ -496,6 +501,11 @@ pub enum Operation {
     },
     /// `b.le target`.
     BLe {
+        by: i32,
+    },
+    /// `b.cond target`, of the conditions that have no variant of their own.
+    BCond {
+        cond: Cond,
         by: i32,
     },
     /// `cbz Xt, target`.

@@ -26,7 +26,7 @@ fn addend(minus: bool, w: u32, b: u64) -> u64
 
 /// Rd is a sum, or a difference, and the flags are its, where they are set.
 #[inline(always)]
-pub(crate) fn sum(
+pub fn sum(
     core: &mut Core,
     sets: bool,
     minus: bool,
@@ -41,7 +41,27 @@ pub(crate) fn sum(
     ensures effect { result ≡ Some Effect.Next }
     ensures registers { core.new ≡ table.after_sum sets w d a (table.addend minus w b) minus core.old }
 {
-    let (v, flags) = add_flags(a, addend(minus, w, b), minus, w);
+    carried_sum(core, sets, w, d, a, addend(minus, w, b), minus)
+}
+
+/// Rd is a sum with a carry, and the flags are its, where they are set.
+#[inline(always)]
+pub fn carried_sum(
+    core: &mut Core,
+    sets: bool,
+    w: u32,
+    d: Target,
+    a: u64,
+    b: u64,
+    carry: bool,
+) -> Option<Effect>
+    requires width { (w ≡ 32) ⊎ (w ≡ 64) }
+    requires first { a < 2 ^ w }
+    requires second { b < 2 ^ w }
+    ensures effect { result ≡ Some Effect.Next }
+    ensures registers { core.new ≡ table.after_sum sets w d a b carry core.old }
+{
+    let (v, flags) = add_flags(a, b, carry, w);
     core.set_target(d, w, v);
     if sets {
         core.set_flags(flags);
@@ -51,14 +71,7 @@ pub(crate) fn sum(
 
 /// Rd, which may be SP, is a sum, or a difference.
 #[inline(always)]
-pub(crate) fn sum_sp(
-    core: &mut Core,
-    minus: bool,
-    w: u32,
-    d: RegOrSp,
-    a: u64,
-    b: u64,
-) -> Option<Effect>
+pub fn sum_sp(core: &mut Core, minus: bool, w: u32, d: RegOrSp, a: u64, b: u64) -> Option<Effect>
     requires width { (w ≡ 32) ⊎ (w ≡ 64) }
     requires first { a < 2 ^ w }
     requires second { b < 2 ^ w }
@@ -71,7 +84,7 @@ pub(crate) fn sum_sp(
 
 /// Rd is a value, and N and Z are its, where the flags are set.
 #[inline(always)]
-pub(crate) fn logic(core: &mut Core, sets: bool, w: u32, d: Target, v: u64) -> Option<Effect>
+pub fn logic(core: &mut Core, sets: bool, w: u32, d: Target, v: u64) -> Option<Effect>
     requires { (w ≡ 32) ⊎ (w ≡ 64) }
     ensures effect { result ≡ Some Effect.Next }
     ensures registers { core.new ≡ table.after_logic sets w d v core.old }
@@ -85,7 +98,7 @@ pub(crate) fn logic(core: &mut Core, sets: bool, w: u32, d: Target, v: u64) -> O
 
 /// Rn where a condition holds, else another number.
 #[inline(always)]
-pub(crate) fn select(
+pub fn select(
     core: &mut Core,
     w: u32,
     d: Target,
@@ -109,7 +122,7 @@ pub(crate) fn select(
 
 /// Rd is a value.
 #[inline(always)]
-pub(crate) fn write(core: &mut Core, w: u32, d: Target, v: u64) -> Option<Effect>
+pub fn write(core: &mut Core, w: u32, d: Target, v: u64) -> Option<Effect>
     requires { (w ≡ 32) ⊎ (w ≡ 64) }
     ensures effect { result ≡ Some Effect.Next }
     ensures registers { core.new ≡ with_x core.old d w v }
@@ -120,7 +133,7 @@ pub(crate) fn write(core: &mut Core, w: u32, d: Target, v: u64) -> Option<Effect
 
 /// Rd, which may be SP, is a value.
 #[inline(always)]
-pub(crate) fn write_sp(core: &mut Core, w: u32, d: RegOrSp, v: u64) -> Option<Effect>
+pub fn write_sp(core: &mut Core, w: u32, d: RegOrSp, v: u64) -> Option<Effect>
     requires { (w ≡ 32) ⊎ (w ≡ 64) }
     ensures effect { result ≡ Some Effect.Next }
     ensures registers { core.new ≡ with_x_sp core.old d w v }
@@ -131,7 +144,7 @@ pub(crate) fn write_sp(core: &mut Core, w: u32, d: RegOrSp, v: u64) -> Option<Ef
 
 /// So many bytes from PC.
 #[inline(always)]
-pub(crate) fn target(core: &Core, by: i32) -> u64
+pub fn target(core: &Core, by: i32) -> u64
     ensures { result ≡ flow.moved_address core.now.pc by }
 {
     core.pc().wrapping_add_signed(by as i64)
@@ -139,7 +152,7 @@ pub(crate) fn target(core: &Core, by: i32) -> u64
 
 /// To the target.
 #[inline(always)]
-pub(crate) fn branch(core: &Core, by: i32) -> Option<Effect>
+pub fn branch(core: &Core, by: i32) -> Option<Effect>
     ensures { result ≡ Some (Effect.Branch (flow.moved_address core.now.pc by)) }
 {
     Some(Effect::Branch(target(core, by)))
@@ -147,7 +160,7 @@ pub(crate) fn branch(core: &Core, by: i32) -> Option<Effect>
 
 /// To the target where the branch is taken, else on.
 #[inline(always)]
-pub(crate) fn branch_if(core: &Core, taken: bool, by: i32) -> Option<Effect>
+pub fn branch_if(core: &Core, taken: bool, by: i32) -> Option<Effect>
     ensures { result ≡ Some (flow.branches_if taken (flow.moved_address core.now.pc by)) }
 {
     if taken {
@@ -159,7 +172,7 @@ pub(crate) fn branch_if(core: &Core, taken: bool, by: i32) -> Option<Effect>
 
 /// To an address. The address behind the instruction is written to x30.
 #[inline(always)]
-pub(crate) fn call(core: &mut Core, to: u64) -> Option<Effect>
+pub fn call(core: &mut Core, to: u64) -> Option<Effect>
     ensures effect { result ≡ Some (Effect.Branch to) }
     ensures registers { core.new ≡ flow.linked core.old }
 {

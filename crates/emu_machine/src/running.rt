@@ -180,11 +180,12 @@ impl Running {
         ensures marks { self.new.marks ≡ self.old.marks }
         ensures saved { self.new.saved ≡ self.old.saved }
     {
+        let pc = self.core.pc();
         match tried(
             &mut *self.core,
             &mut self.memory,
             &mut self.log,
-            self.operations.find(word),
+            self.operations.find(pc, word),
         ) {
             Some(effect) => self.leave_insn(effect),
             None => self.by_form(word),

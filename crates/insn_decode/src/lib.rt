@@ -1,8 +1,8 @@
 //! The instruction that a word is, and the word of an instruction, over all tables of instructions; and words of SVE
 //! with their instructions, so that a word which was decoded needn't be decoded again.
 //!
-//! What a word decodes to rests on the word alone. So it is remembered by the word and not by its address, and code
-//! that is written needs no notice.
+//! What a word decodes to rests on the word alone. So the word is remembered with it, and is compared wherever it is
+//! looked for: code that is written needs no notice.
 #![tactic(auto)]
 
 mod known;

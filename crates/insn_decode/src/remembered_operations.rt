@@ -8,15 +8,15 @@ use a64_operations::{Operation, operation_of};
 use std::alloc::{AllocError, Global};
 use std::marker::Model;
 
-/// The number of places. With 256, words that had a place in common were decoded again and again: an eighth of what a
-/// program of integers took.
+/// The number of places, for 4 KiB of instructions one behind the other.
 const PLACES: usize = 1024;
 
 /// A word with the operation that it is.
 #[derive(Clone, Copy)]
 struct KnownOperation {
-    word: u32,
+    // first, so that its address is the place's
     operation: Operation,
+    word: u32,
 }
 
 impl Model for KnownOperation {
@@ -82,15 +82,17 @@ fn operation_of_word(word: u32) -> Operation
 {
     match decode_a64_word::<KnownOperation>(word) {
         None => Operation::ByForm,
-        Some(insn) => operation_of(insn.form()),
+        Some(insn) => operation_of::<KnownOperation>(insn.form()),
     }
 }
 
-/// Words of A64 with their operations, one at each place. Of the words that have a place in common, the one that was
-/// asked for last is there. Each place has a word from the start on, so that no place has to be asked whether it has
-/// one.
+/// Words of A64 with their operations, one at each place. The address of an instruction gives its place, so that the
+/// words of a loop have places of their own; of two instructions that have a place in common, the word of the one that
+/// was asked for last is there. Each place has a word from the start on, so that no place has to be asked whether it
+/// has one.
 ///
-/// No contract says which words these are: whatever they are, `find` answers an operation of the word.
+/// No contract says which words these are: whatever they are, and whatever the address, `find` answers an operation of
+/// the word.
 #[derive(Drop)]
 pub struct KnownOperations {
     // in a box, so that what has them can be moved
@@ -105,23 +107,23 @@ impl KnownOperations {
         })
     }
 
-    /// The operation of a word that isn't in a row of SVE, which is remembered from then on.
+    /// The operation of a word that isn't in a row of SVE, which is remembered from then on, at the place of its address.
     #[inline(always)]
-    pub fn find(&mut self, word: u32) -> &Operation
+    pub fn find(&mut self, pc: u64, word: u32) -> &Operation
         requires { ¬ (field word 27 2 ≡ 0) }
         ensures { IsOperationOf result.now word }
     {
         let places = &mut *self.places;
-        let known = &mut places[place_of(word)];
+        let known = &mut places[place_of(pc)];
         known.becomes(word);
         known.operation()
     }
 }
 
-/// The place of a word: the upper 10 bits of its product by 2^32 times the golden ratio's part below 1.
+/// The place of an instruction: the 10 bits of its address behind those that are 0.
 #[inline(always)]
-fn place_of(word: u32) -> usize
+fn place_of(pc: u64) -> usize
     ensures { result < 1024 }
 {
-    (word.wrapping_mul(0x9E37_79B1) / 0x40_0000) as usize
+    (pc / 4 % 1024) as usize
 }

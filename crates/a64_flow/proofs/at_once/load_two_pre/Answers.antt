@@ -1,8 +1,0 @@
-use Rattle.std.proofs.Common.{◌∷◌, []}
-use Rattle.a64_effects.specs.declared.transfer.Transfer.TheVariants.{Load}
-use Rattle.a64_flow.proofs.AtOnceRows.{by_as, pre_done}
-use Rattle.a64_flow.proofs.at_once.load_two_pre.Goals as goal
-
-pub returns-then-loaded_two-clause-done : goal.returns-then-loaded_two-clause-done
-returns-then-loaded_two-clause-done c =
-    pre_done Load (c.args.t ∷ c.args.u ∷ []) c.args.n 8 c.args.core.now c.loaded_two.new.core c.args.mem.now.memory c.loaded_two.new.mem.memory c.loaded_two.new.log.items c.args.by c.near-there.result (by_as _ _ _ c.ranges.by c.near-there.ensures) c.set_reg_or_sp.new.self c.set_reg_or_sp.ensures (c.loaded_two.ensures.done c.if-loaded_two.true)
