@@ -1,8 +1,8 @@
 #!/bin/sh
 # A session of `svemu-tool debug` at a terminal, by tmux: the prompt, an empty line that repeats, a run that stops by
-# itself, Ctrl-C, which ends the session and leaves the terminal as it was, and Ctrl-D, which ends it with status 0. Then
-# one of tools/svemu-debug: the lines of the source, and where rlwrap is installed TAB, which completes a symbol, and the
-# line before.
+# itself, a long way back that is told of before, Ctrl-C, which ends the session and leaves the terminal as it was, and
+# Ctrl-D, which ends it with status 0. Then one of tools/svemu-debug: the lines of the source, and where rlwrap is
+# installed TAB, which completes a symbol, and the line before.
 #
 #   tests/debugging.sh TOOL
 #
@@ -55,6 +55,11 @@ shows '^stopped by itself'
 shows '^step 5004 '
 send '' Enter
 shows '^step 10004 '
+send 'goto 12000000' Enter
+shows '^step 12000000 '
+send 'last-write _start 4' Enter
+shows '^looks through up to 12000000 steps \.\.$'
+shows '^no step before this one wrote to '
 send C-d
 shows '^status 0'
 # Ctrl-C while it runs: the terminal is as it was before.

@@ -634,10 +634,11 @@ traces_of_steps() {
     holds "traces of steps" python3 tests/traces.py "$SVEMU" "$tool" "$@"
 }
 
-# Sessions of the debugger for people find what their tasks ask for, and stand where `trace` says; and one at a terminal.
+# Sessions of the debugger for people find what their tasks ask for, and answer as a second one does; and one at a
+# terminal.
 debugger_for_people() {
     ! lacks "the debugger for people" python3 || return 0
-    holds "sessions of the debugger" python3 tests/debugger.py "$tool"
+    holds "sessions of the debugger" python3 tests/debugger.py "$SVEMU" "$tool"
     ! lacks "a session at a terminal" tmux || return 0
     holds "a session at a terminal" sh tests/debugging.sh "$tool"
 }

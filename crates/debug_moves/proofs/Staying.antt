@@ -1,5 +1,5 @@
 -- A session's machine stays one that the run from its start passes.
-use Rattle.std.proofs.Common.{◌≡◌, ℕ, Bool, false, List, Option, is_err, Result, Ok, Err, ap, sym, subst, ◌∙◌}
+use Rattle.std.proofs.Common.{◌≡◌, ℕ, Bool, true, false, List, Option, is_err, Result, Ok, Err, ap, sym, subst, ◌∙◌}
 use Rattle.std.specs.Result.{OnOk}
 use Rattle.emu_model.specs.State.{State}
 use Rattle.emu_machine.specs.Machines.{MachineState}
@@ -47,3 +47,7 @@ ok_then (Err e) u w same first second = tt
 -- no stream failed where a call answers so
 pub none_failed : {A E : Type 0} (r : Result A E) (x : A) {b : Bool} → is_err r ≡ b → r ≡ Ok x → b ≡ false
 none_failed r x same is = sym same ∙ ap is_err is
+
+-- and one did
+pub some_failed : {A E : Type 0} (r : Result A E) (e : E) {b : Bool} → is_err r ≡ b → r ≡ Err e → b ≡ true
+some_failed r e same is = sym same ∙ ap is_err is

@@ -7,7 +7,7 @@ use io_gate::Failed;
 use std::alloc::AllocError;
 
 /// Why a session is broken off.
-#[derive(Clone, Copy, Debug, PartialEq, Eq)]
+#[derive(Clone, Copy)]
 pub enum Broken {
     /// Memory was wanting.
     OutOfMemory,

@@ -55,6 +55,11 @@ fn is_at_another(session: &Session, from: &Option<SourcePlace<'_>>, machine: &Ma
     }
 }
 
+/// Whether a move ended elsewhere than it was to go.
+fn is_stopped(reached: &Reached) -> bool {
+    !matches!(*reached, Reached::Aim)
+}
+
 /// Goes on to the function that a call calls, if lines of that are known, and else behind the call: to an address, with
 /// the stack as it is.
 fn enter_call<O: Sink, E: Sink>(
@@ -75,7 +80,7 @@ fn enter_call<O: Sink, E: Sink>(
     let aim = Aim::Outside(call, call, false);
     let reached = session.seek(aim, machine, trail, output, errors)?;
     let stays = machine.core().pc() == behind || has_line(session, machine);
-    if stays || reached != Reached::Aim {
+    if stays || is_stopped(&reached) {
         return Ok(reached);
     }
     session.seek(Aim::Above(behind, sp), machine, trail, output, errors)
@@ -151,7 +156,7 @@ pub fn step_line<O: Sink, E: Sink>(
         let calls = into && is_call(word_at(machine.mem(), pc));
         let reached = pass_row(session, into, machine, trail, output, errors)?;
         let entered = calls && machine.core().pc() != pc.wrapping_add(4);
-        if reached != Reached::Aim || entered || is_at_another(session, &from, machine) {
+        if is_stopped(&reached) || entered || is_at_another(session, &from, machine) {
             return Ok(reached);
         }
     }

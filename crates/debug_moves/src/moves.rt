@@ -1,7 +1,9 @@
 //! The commands that move the machine.
-ghost use Rattle.std.specs.Prelude.{◌≡◌, IfOk, OnOk};
-ghost use Rattle.dbg_back.specs.Walks.{CanWalk};
-ghost use Rattle.debug_moves.specs.Sessions.{MeetsStop};
+ghost use Rattle.std.specs.Prelude.{◌≡◌, IfOk, OnOk, is_some, true};
+ghost use Rattle.emu_model.specs.State.{State};
+ghost use Rattle.dbg_model.specs.Session.{Course};
+ghost use Rattle.dbg_back.specs.Walks.{CanWalk, IsWalk};
+ghost use Rattle.debug_moves.specs.Sessions.{MeetsStop, back_to_write, last_write};
 ghost use Rattle.debug_walk.specs.Walks.{StaysOn};
 
 use crate::ends::Broken;
@@ -9,7 +11,7 @@ use crate::line_moves::step_line;
 use crate::session::{Reached, Session, steps_before};
 use debug_points::{Aim, Goal, Points};
 use debug_values::{is_call, is_return, word_at};
-use debug_walk::{Trail, backward};
+use debug_walk::{Trail, backward, machines_before};
 use debug_words::Move;
 use emu_bits::Reg;
 use emu_machine::Machine;
@@ -115,12 +117,12 @@ pub fn go<O: Sink, E: Sink>(
     ensures input { session.new.input.now ≡ session.old.input.now }
     ensures met { IfOk result (MeetsStop machine.new) }
 {
-    if way == Move::Step {
+    if matches!(way, Move::Step) {
         let target = machine.steps().saturating_add(count);
         session.go(machine, trail, target, output, errors)?;
         return Ok(Reached::Aim);
     }
-    if way == Move::StepBack {
+    if matches!(way, Move::StepBack) {
         session.go(machine, trail, steps_before(machine, count), output, errors)?;
         return Ok(Reached::Aim);
     }
@@ -147,9 +149,14 @@ pub fn go_to_last_write<O: Sink, E: Sink>(
     errors: &mut E,
 ) -> Result<bool, Broken>
     requires walks { CanWalk session.now.input.now machine.old trail.old }
+    ensures found { IfOk result (λ found. (start : State) (c : Course) → IsWalk start session.now.input.now c
+        machine.old trail.old → found ≡ is_some (last_write address count start c)) }
+    ensures back { IfOk result (λ found. found ≡ true → (start : State) (c : Course) → IsWalk start
+        session.now.input.now c machine.old trail.old → IsWalk start session.now.input.now
+        (back_to_write address count start c) machine.new trail.new) }
     ensures stays { OnOk result (StaysOn session.now.input.now machine.old machine.new trail.old trail.new) }
 {
-    let here = machine.steps();
+    let here = machines_before(machine);
     let none = Points::new(alloc);
     let goal = Goal {
         points: &none,

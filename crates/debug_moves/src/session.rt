@@ -1,7 +1,23 @@
 //! The state of a session beside its machine, and how it moves the machine.
-ghost use Rattle.std.specs.Prelude.{◌≡◌, ◌<◌, ◌-◌, min, length, slice_get, is_err, IfOk, IfSome, OnOk, Some};
-ghost use Rattle.dbg_back.specs.Walks.{CanWalk, Does};
-ghost use Rattle.debug_moves.specs.Sessions.{MeetsStop, limit, met_first, unmet};
+ghost use Rattle.std.specs.Prelude.{◌≡◌, ◌<◌, ◌≤◌, ◌-◌, ℕ, List, [], Option, min, length, slice_get, is_err, IfOk};
+ghost use Rattle.std.specs.Prelude.{IfSome, OnOk, None, Some, false};
+ghost use Rattle.std.specs.Bool.{OnTrue};
+ghost use Rattle.emu_model.specs.State.{State};
+ghost use Rattle.dbg_model.specs.Session.{Course, walked};
+ghost use Rattle.dbg_back.specs.Walks.{CanWalk, Does, IsWalk};
+ghost use Rattle.debug_moves.specs.Sessions.{
+  MeetsStop,
+  back_from,
+  limit,
+  met_before,
+  met_first,
+  moved_back,
+  moved_on,
+  next_met,
+  seek_until,
+  stop_or,
+  unmet,
+};
 ghost use Rattle.debug_walk.specs.Walks.{StaysOn, at_step, machines_before};
 
 use crate::ends::{Broken, done};
@@ -38,7 +54,7 @@ pub struct Session<'symbols, 'names, 'rows, 'table, 'sources, 'texts, 'input> {
 }
 
 /// Where a move ended.
-#[derive(Clone, Copy, Debug, PartialEq, Eq)]
+#[derive(Clone, Copy)]
 pub enum Reached {
     /// At a break or watch.
     Stop(Point),
@@ -130,8 +146,11 @@ impl Session<'_, '_, '_, '_, '_, '_, '_> {
     }
 
     /// Whether nothing is sought.
-    fn is_free(&self, aim: &Aim) -> bool {
-        *aim == Aim::Stops && self.points.items().is_empty()
+    fn is_free(&self, aim: &Aim) -> bool
+        ensures aim { OnTrue result (aim.now ≡ Aim.Stops) }
+        ensures none { OnTrue result (self.now.points.items ≡ []) }
+    {
+        matches!(aim, Aim::Stops) && self.points.items().is_empty()
     }
 
     /// Goes on to the limit, or to the end.
@@ -144,6 +163,10 @@ impl Session<'_, '_, '_, '_, '_, '_, '_> {
         errors: &mut E,
     ) -> Result<Reached, Broken>
         requires walks { CanWalk self.now.input.now machine.old trail.old }
+        ensures does { Does (λ start c. walked c (limit - c.state.parts.steps)) self.now.input.now machine.old
+            machine.new trail.old trail.new (O.held output.old) (O.held output.new) (E.held errors.old)
+            (E.held errors.new) (is_err result) }
+        ensures reached { IfOk result (λ reached. reached ≡ unmet self.now.budget machine.new.parts) }
         ensures stays { OnOk result (StaysOn self.now.input.now machine.old machine.new trail.old trail.new) }
         ensures met { IfOk result (MeetsStop machine.new) }
     {
@@ -162,6 +185,13 @@ impl Session<'_, '_, '_, '_, '_, '_, '_> {
         errors: &mut E,
     ) -> Result<Reached, Broken>
         requires walks { CanWalk self.old.input.now machine.old trail.old }
+        ensures does { Does (λ start c. (moved_on aim self.old.slice self.old.budget self.old.points c).course)
+            self.old.input.now machine.old machine.new trail.old trail.new (O.held output.old) (O.held output.new)
+            (E.held errors.old) (E.held errors.new) (is_err result) }
+        ensures points { OnOk result ((start : State) (c : Course) → IsWalk start self.old.input.now c machine.old
+            trail.old → self.new.points ≡ (moved_on aim self.old.slice self.old.budget self.old.points c).points) }
+        ensures reached { IfOk result (λ reached. (start : State) (c : Course) → IsWalk start self.old.input.now c
+            machine.old trail.old → reached ≡ (moved_on aim self.old.slice self.old.budget self.old.points c).reached) }
         ensures stays { OnOk result (StaysOn self.old.input.now machine.old machine.new trail.old trail.new) }
         ensures input { self.new.input.now ≡ self.old.input.now }
         ensures met { IfOk result (MeetsStop machine.new) }
@@ -170,13 +200,12 @@ impl Session<'_, '_, '_, '_, '_, '_, '_> {
         if self.is_free(&aim) {
             return self.run_free(limit, machine, trail, output, errors);
         }
-        'seek: for _ in 0..limit {
+        'seek: loop {
             match self.seek_once(&aim, limit, machine, trail, output, errors)? {
                 Some(reached) => return Ok(reached),
                 None => {}
             }
         }
-        Ok(self.unmet(machine))
     }
 
     /// Goes on to the next machine that meets a break, a watch or an aim, and counts the stop. None where it is passed.
@@ -190,6 +219,16 @@ impl Session<'_, '_, '_, '_, '_, '_, '_> {
         errors: &mut E,
     ) -> Result<Option<Reached>, Broken>
         requires walks { CanWalk self.old.input.now machine.old trail.old }
+        ensures does { Does (λ start. next_met aim.now limit self.old.points) self.old.input.now machine.old
+            machine.new trail.old trail.new (O.held output.old) (O.held output.new) (E.held errors.old)
+            (E.held errors.new) (is_err result) }
+        ensures on { IfOk result (λ reached. (start : State) (c : Course) → IsWalk start self.old.input.now c
+            machine.old trail.old → (let there = next_met aim.now limit self.old.points c in seek_until aim.now
+            self.old.budget limit self.old.points c ≡ stop_or reached self.new.points there (λ left. seek_until aim.now
+            self.old.budget limit left there))) }
+        ensures further { IfOk result (λ reached. reached ≡ None → machine.old.parts.steps < min
+            machine.new.parts.steps limit) }
+        ensures budget { self.new.budget ≡ self.old.budget }
         ensures stays { OnOk result (StaysOn self.old.input.now machine.old machine.new trail.old trail.new) }
         ensures input { self.new.input.now ≡ self.old.input.now }
         ensures met { IfOk result (λ reached. IfSome reached (MeetsStop machine.new)) }
@@ -210,18 +249,24 @@ impl Session<'_, '_, '_, '_, '_, '_, '_> {
     /// Goes back to a stop, or to an aim, by at most a slice of steps.
     pub fn seek_back(&mut self, aim: Aim, machine: &mut Machine, trail: &mut Trail) -> Reached
         requires walks { CanWalk self.old.input.now machine.old trail.old }
+        ensures does { (held errs : Option (List ℕ)) → Does (λ start c. (moved_back aim self.old.slice self.old.budget
+            self.old.points start c).course) self.old.input.now machine.old machine.new trail.old trail.new held held
+            errs errs false }
+        ensures points { (start : State) (c : Course) → IsWalk start self.old.input.now c machine.old trail.old →
+            self.new.points ≡ (moved_back aim self.old.slice self.old.budget self.old.points start c).points }
+        ensures reached { (start : State) (c : Course) → IsWalk start self.old.input.now c machine.old trail.old →
+            result ≡ (moved_back aim self.old.slice self.old.budget self.old.points start c).reached }
         ensures stays { StaysOn self.old.input.now machine.old machine.new trail.old trail.new }
         ensures input { self.new.input.now ≡ self.old.input.now }
         ensures met { MeetsStop machine.new result }
     {
         let least = machine.steps().saturating_sub(self.slice);
-        'seek: for _ in least..machines_before(machine) {
+        'seek: loop {
             match self.seek_back_once(&aim, least, machine, trail) {
                 Some(reached) => return reached,
                 None => {}
             }
         }
-        self.unmet(machine)
     }
 
     /// Goes back to the last machine before this one that meets a break, a watch or an aim, from the one behind `least`
@@ -234,6 +279,16 @@ impl Session<'_, '_, '_, '_, '_, '_, '_> {
         trail: &mut Trail,
     ) -> Option<Reached>
         requires walks { CanWalk self.old.input.now machine.old trail.old }
+        ensures does { (held errs : Option (List ℕ)) → Does (λ start. met_before aim.now start (min least
+            machine.old.parts.steps) self.old.points) self.old.input.now machine.old machine.new trail.old trail.new
+            held held errs errs false }
+        ensures back { (start : State) (c : Course) → IsWalk start self.old.input.now c machine.old trail.old →
+            (let behind = min least machine.old.parts.steps in let there = met_before aim.now start behind
+            self.old.points c in back_from aim.now self.old.budget start behind self.old.points c ≡ stop_or result
+            self.new.points there (λ left. back_from aim.now self.old.budget start behind left there)) }
+        ensures further { result ≡ None → machines_before machine.new.parts < machines_before machine.old.parts }
+        ensures behind { result ≡ None → min least machine.old.parts.steps ≤ machine.new.parts.steps }
+        ensures budget { self.new.budget ≡ self.old.budget }
         ensures stays { StaysOn self.old.input.now machine.old machine.new trail.old trail.new }
         ensures input { self.new.input.now ≡ self.old.input.now }
         ensures met { IfSome result (MeetsStop machine.new) }

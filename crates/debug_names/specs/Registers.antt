@@ -1,5 +1,6 @@
 -- Registers and lanes by their names. A `$` before a name is left out.
-use Rattle.std.specs.Prelude.{ℕ, ◌==◌, List, length, drop, codes, Option, Some, None, nat_eq, nat_le, nat_lt, if◌then◌else◌}
+use Rattle.std.specs.Prelude.{ℕ, ◌==◌, List, length, drop, codes, Option, Some, None, nat_eq, nat_le, nat_lt}
+use Rattle.std.specs.Prelude.{if◌then◌else◌}
 use Rattle.std.specs.List.{after_first, before_first, position_or_len, starts_with}
 use Rattle.std.specs.Option.{option_map}
 use Rattle.std.specs.Str.{bytes_eq}

@@ -1,10 +1,16 @@
 -- The names of commands, as gdb has them where it has the command: a word names a command by its short form, or by so
 -- many first letters of its name. Of several commands that a word names, it is the first of the table.
-use Rattle.std.specs.Prelude.{ℕ, Bool, ◌&&◌, ◌||◌, List, [], ◌∷◌, length, codes, get_or, Option, nat_eq, nat_le, unwrap_or}
+use Rattle.std.specs.Prelude.{ℕ, ◌+◌, Bool, ◌&&◌, ◌||◌, List, [], ◌∷◌, length, codes, fold, Option, nat_eq, nat_le}
+use Rattle.std.specs.Prelude.{nat_lt, if◌then◌else◌}
 use Rattle.std.specs.List.{find, starts_with}
 use Rattle.std.specs.Str.{bytes_eq}
 use Rattle.debug_names.specs.declared.verbs.Verb.{Verb}
-use Rattle.debug_names.specs.declared.verbs.Verb.TheVariants.{Break, BreakOnce, Backtrace, Delete, Disassemble, Disable, Enable, Ignore, Info, Watch, WatchReads, WatchBoth, Run, Start, Continue, Step, Next, StepLine, NextLine, Finish, Until, Advance, StepBack, NextBack, ContinueBack, FinishBack, Goto, LastWrite, Print, Examine, Find, Where, When, Lanes, Listing, Set, Source, Help, Quit}
+use Rattle.debug_names.specs.declared.verbs.Verb.TheVariants.{Break, BreakOnce, Backtrace, Delete, Disassemble, Disable}
+use Rattle.debug_names.specs.declared.verbs.Verb.TheVariants.{Enable, Ignore, Info, Watch, WatchReads, WatchBoth, Run}
+use Rattle.debug_names.specs.declared.verbs.Verb.TheVariants.{Start, Continue, Step, Next, StepLine, NextLine, Finish}
+use Rattle.debug_names.specs.declared.verbs.Verb.TheVariants.{Until, Advance, StepBack, NextBack, ContinueBack}
+use Rattle.debug_names.specs.declared.verbs.Verb.TheVariants.{FinishBack, Goto, LastWrite, Print, Examine, Find, Where}
+use Rattle.debug_names.specs.declared.verbs.Verb.TheVariants.{When, Lanes, Listing, Set, Source, Help, Quit}
 
 -- the whole name
 abbrev pub name_of : Verb → List ℕ
@@ -119,7 +125,7 @@ least_of NextBack = 13
 least_of ContinueBack = 9
 least_of FinishBack = 9
 least_of Goto = 2
-least_of LastWrite = 2
+least_of LastWrite = 3
 least_of Print = 2
 least_of Examine = 1
 least_of Find = 4
@@ -142,7 +148,7 @@ form_of Disassemble = codes "disassemble [PLACE]"
 form_of Disable = codes "disable [NUMBER]"
 form_of Enable = codes "enable [NUMBER]"
 form_of Ignore = codes "ignore NUMBER COUNT"
-form_of Info = codes "info breakpoints | info registers [NAME] | info symbol PLACE | info line [PLACE]"
+form_of Info = codes "info breakpoints | info registers [NAME ..] | info symbol PLACE | info line [PLACE]"
 form_of Watch = codes "watch PLACE LENGTH"
 form_of WatchReads = codes "rwatch PLACE LENGTH"
 form_of WatchBoth = codes "awatch PLACE LENGTH"
@@ -178,8 +184,9 @@ form_of Quit = codes "quit"
 abbrev pub all_verbs : List Verb
 all_verbs =
     Break ∷ BreakOnce ∷ Backtrace ∷ Delete ∷ Disassemble ∷ Disable ∷ Enable ∷ Ignore ∷ Info ∷ Watch ∷ WatchReads ∷
-    WatchBoth ∷ Run ∷ Start ∷ Continue ∷ Step ∷ Next ∷ StepLine ∷ NextLine ∷ Finish ∷ Until ∷ Advance ∷ StepBack ∷ NextBack ∷
-    ContinueBack ∷ FinishBack ∷ Goto ∷ LastWrite ∷ Print ∷ Examine ∷ Find ∷ Where ∷ When ∷ Lanes ∷ Listing ∷ Set ∷ Source ∷ Help ∷ Quit ∷ []
+    WatchBoth ∷ Run ∷ Start ∷ Continue ∷ Step ∷ Next ∷ StepLine ∷ NextLine ∷ Finish ∷ Until ∷ Advance ∷ StepBack ∷
+    NextBack ∷ ContinueBack ∷ FinishBack ∷ Goto ∷ LastWrite ∷ Print ∷ Examine ∷ Find ∷ Where ∷ When ∷ Lanes ∷ Listing ∷
+    Set ∷ Source ∷ Help ∷ Quit ∷ []
 
 -- a short form, or so many first letters of a name
 abbrev pub is_form : List ℕ → List ℕ → ℕ → List ℕ → Bool
@@ -189,13 +196,19 @@ is_form word short least name =
 abbrev pub is_named : List ℕ → Verb → Bool
 is_named word v = is_form word (short_of v) (least_of v) (name_of v)
 
--- ---- the nearest name of a word that names none: the first that begins with its first letter
+-- ---- the nearest name of a word that names none: of those that share the most first letters with it, the first of the
+-- table; `help` where none shares one
 
-abbrev pub is_near : List ℕ → Verb → Bool
-is_near word v = nat_eq (get_or word 0 0) (get_or (name_of v) 0 0)
+abbrev pub shared : List ℕ → List ℕ → ℕ
+shared [] name = 0
+shared (a ∷ word) [] = 0
+shared (a ∷ word) (b ∷ name) = if nat_eq a b then 1 + shared word name else 0
+
+abbrev pub nearer : List ℕ → Verb → Verb → Verb
+nearer word u v = if nat_lt (shared word (name_of u)) (shared word (name_of v)) then v else u
 
 abbrev pub nearest : List ℕ → Verb
-nearest word = unwrap_or (find (is_near word) all_verbs) Help
+nearest word = fold (nearer word) Help all_verbs
 
 -- the command that a word names
 abbrev pub verb_of : List ℕ → Option Verb

@@ -31,7 +31,7 @@ use emu_bits::{Esize, Pred, Reg};
 use line_words::number_of_word;
 
 /// A scalar register. Register 31 of `X` and `W` is the one that reads as 0.
-#[derive(Clone, Copy, Debug, PartialEq, Eq)]
+#[derive(Clone, Copy)]
 pub enum Register {
     X(Reg),
     /// The low 32 bits.
@@ -60,7 +60,7 @@ impl Register {
 }
 
 /// A lane of a Z register.
-#[derive(Clone, Copy, Debug, PartialEq, Eq)]
+#[derive(Clone, Copy)]
 pub struct Lane {
     pub register: Reg,
     pub size: Esize,
@@ -69,7 +69,7 @@ pub struct Lane {
 
 /// What a name names of a machine's registers. Where a vector register has no size its bytes, and of a predicate its
 /// bits, are meant.
-#[derive(Clone, Copy, Debug, PartialEq, Eq)]
+#[derive(Clone, Copy)]
 pub enum Thing {
     Scalar(Register),
     Z(Reg, Option<Esize>),

@@ -1,21 +1,22 @@
 //! The names of commands.
-ghost use Rattle.std.specs.Prelude.{◌≡◌, get_or, nat_eq};
+ghost use Rattle.std.specs.Prelude.{◌≡◌, fold, nat_eq};
 ghost use Rattle.std.specs.List.{find, starts_with};
 ghost use Rattle.debug_names.specs.Verbs.{
   all_verbs,
   form_of,
   is_form,
   is_named,
-  is_near,
   least_of,
   name_of,
+  nearer,
   nearest,
+  shared,
   short_of,
   verb_of,
 };
 
 /// A command's name.
-#[derive(Clone, Copy, Debug, PartialEq, Eq)]
+#[derive(Clone, Copy)]
 pub enum Verb {
     Break,
     BreakOnce,
@@ -188,7 +189,7 @@ impl Verb {
             Verb::ContinueBack => 9,
             Verb::FinishBack => 9,
             Verb::Goto => 2,
-            Verb::LastWrite => 2,
+            Verb::LastWrite => 3,
             Verb::Print => 2,
             Verb::Examine => 1,
             Verb::Find => 4,
@@ -217,7 +218,7 @@ impl Verb {
             Verb::Enable => "enable [NUMBER]",
             Verb::Ignore => "ignore NUMBER COUNT",
             Verb::Info =>
-                "info breakpoints | info registers [NAME] | info symbol PLACE | info line [PLACE]",
+                "info breakpoints | info registers [NAME ..] | info symbol PLACE | info line [PLACE]",
             Verb::Watch => "watch PLACE LENGTH",
             Verb::WatchReads => "rwatch PLACE LENGTH",
             Verb::WatchBoth => "awatch PLACE LENGTH",
@@ -332,41 +333,46 @@ fn first_named(verbs: &[Verb], word: &str) -> Option<Verb>
     None
 }
 
-/// The first byte of a text, and 0 where it has none.
-fn first_byte(text: &str) -> u8
-    ensures { result ≡ get_or text.now 0 0 }
+/// How many first letters two words share.
+fn shared(word: &[u8], name: &[u8]) -> usize
+    ensures { result ≡ shared word.now name.now }
 {
-    if text.is_empty() {
-        0
-    } else {
-        text.as_bytes()[0]
-    }
-}
-
-/// Whether a name begins with the first letter of a word.
-fn is_near(word: &str, verb: Verb) -> bool
-    ensures { result ≡ is_near word.now verb }
-{
-    first_byte(word) == first_byte(verb.name())
-}
-
-/// The first of some commands that is near to a word.
-fn first_near(verbs: &[Verb], word: &str) -> Option<Verb>
-    ensures { result ≡ find (is_near word.now) verbs.now }
-{
-    for verb in verbs {
-        if is_near(word, *verb) {
-            return Some(*verb);
+    'letters: for k in 0..word.len() {
+        if name.len() <= k || word[k] != name[k] {
+            return k;
         }
     }
-    None
+    word.len()
 }
 
-/// The first command of the table whose name begins with the first letter of a word; `help` where there is none.
+/// The one of two commands whose name shares more first letters with a word, and the first where both share as many.
+fn nearer(word: &str, first: Verb, second: Verb) -> Verb
+    ensures { result ≡ nearer word.now first second }
+{
+    let word = word.as_bytes();
+    if shared(word, first.name().as_bytes()) < shared(word, second.name().as_bytes()) {
+        second
+    } else {
+        first
+    }
+}
+
+/// The first of some commands, and of another one before them, whose name shares the most first letters with a word.
+fn nearest_among(verbs: &[Verb], word: &str, other: Verb) -> Verb
+    ensures { result ≡ fold (nearer word.now) other verbs.now }
+{
+    let mut found = other;
+    'verbs: for verb in verbs {
+        found = nearer(word, found, *verb);
+    }
+    found
+}
+
+/// The first command of the table whose name shares the most first letters with a word; `help` where none shares one.
 pub fn nearest(word: &str) -> Verb
     ensures { result ≡ nearest word.now }
 {
-    first_near(&all_verbs(), word).unwrap_or(Verb::Help)
+    nearest_among(&all_verbs(), word, Verb::Help)
 }
 
 /// The command that a word names.

@@ -7,7 +7,5 @@ mod refusals;
 mod sources;
 
 pub use options::{Given, run_words};
-pub use refusals::{
-    FILE_LIMIT, INPUT_LIMIT, miss_file, refuse_image, refuse_long_file, refuse_table, refuse_words,
-};
+pub use refusals::{FILE_LIMIT, miss_file, refuse_long_file, refuse_table, refuse_words};
 pub use sources::{ReadFile, read_sources, seen_sources};

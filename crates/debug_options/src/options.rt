@@ -1,9 +1,11 @@
 //! The words of `debug`: those of a run of `svemu`, and its own options.
+ghost use Rattle.std.specs.Prelude.{◌<◌, length};
 
 use std::alloc::{AllocError, Global};
+use tool_refusals::push_word;
 
 /// The places of the values of the options that a run hasn't.
-#[derive(Clone, Copy, Debug, PartialEq, Eq)]
+#[derive(Clone, Copy)]
 pub struct Given {
     /// That of `--input`: the program's input.
     pub input: Option<usize>,
@@ -13,29 +15,49 @@ pub struct Given {
     pub lines: Option<usize>,
 }
 
-/// Which option a word gives that a run hasn't.
-fn with_option(given: Given, word: &str, place: usize) -> Option<Given> {
-    match word {
-        "--input" => Some(Given {
-            input: Some(place.saturating_add(1)),
-            ..given
-        }),
-        "--script" => Some(Given {
-            script: Some(place.saturating_add(1)),
-            ..given
-        }),
-        "--lines" => Some(Given {
-            lines: Some(place.saturating_add(1)),
-            ..given
-        }),
-        _ => None,
-    }
+/// Whether a word is an option that a run hasn't.
+pub fn is_own(word: &str) -> bool {
+    word == "--input" || word == "--script" || word == "--lines"
 }
 
-/// Appends a copy of a word. Err is want of memory.
-fn push_word(alloc: Global, list: &mut Vec<String>, text: &str) -> Result<(), AllocError> {
-    list.push(String::from_str(alloc, text)?)?;
-    Ok(())
+impl Given {
+    /// Without any option.
+    fn nothing() -> Given {
+        Given {
+            input: None,
+            script: None,
+            lines: None,
+        }
+    }
+
+    /// The place of an option's value, if it is given.
+    fn place_of(&self, option: &str) -> Option<usize> {
+        match option {
+            "--input" => self.input,
+            "--script" => self.script,
+            "--lines" => self.lines,
+            _ => None,
+        }
+    }
+
+    /// With the value of an option at a place.
+    fn with(self, option: &str, place: usize) -> Given {
+        match option {
+            "--input" => Given {
+                input: Some(place),
+                ..self
+            },
+            "--script" => Given {
+                script: Some(place),
+                ..self
+            },
+            "--lines" => Given {
+                lines: Some(place),
+                ..self
+            },
+            _ => self,
+        }
+    }
 }
 
 /// Whether an option of a run is given before `--`.
@@ -53,37 +75,35 @@ fn has_option(words: &[String], name: &str) -> bool {
     found
 }
 
+/// Whether a word is an option that a run hasn't, for the first time, and another word stands behind it.
+fn gives(given: &Given, words: &[String], place: usize) -> bool
+    requires { place < length words.now }
+{
+    let word = words[place].as_str();
+    is_own(word) && given.place_of(word).is_none() && words.len() - place > 1
+}
+
 /// The words after the name of `svemu` that run what words of `debug` do, where a vector length of 512 bits and
-/// 10,000,000,000 steps stand for what isn't told; and the debugger's own options. Err is want of memory.
+/// 10,000,000,000 steps stand for what isn't told; and the debugger's own options. Of these one that is given twice, or
+/// has no value, is left among the words, which no run has then. Err is want of memory.
 pub fn run_words(alloc: Global, words: &[String]) -> Result<(Vec<String>, Given), AllocError> {
     let mut list = Vec::new(alloc);
-    let mut given = Given {
-        input: None,
-        script: None,
-        lines: None,
-    };
+    let mut given = Given::nothing();
     push_word(alloc, &mut list, "run")?;
+    push_defaults(alloc, &mut list, words)?;
     let mut plain = false;
     let mut value = false;
     for place in 1..words.len() {
         let word = words[place].as_str();
-        let option = if plain || value {
-            None
+        if value {
+            value = false;
+        } else if !plain && gives(&given, words, place) {
+            given = given.with(word, place + 1);
+            value = true;
         } else {
-            with_option(given, word, place)
-        };
-        if word == "--" && !plain && !value {
-            plain = true;
-            push_defaults(alloc, &mut list, words)?;
-        }
-        if option.is_none() && !value {
+            plain = plain || word == "--";
             push_word(alloc, &mut list, word)?;
         }
-        value = option.is_some();
-        given = option.unwrap_or(given);
-    }
-    if !plain {
-        push_defaults(alloc, &mut list, words)?;
     }
     Ok((list, given))
 }

@@ -1,20 +1,20 @@
 //! What is said of what is refused or failed: which line stands for which refusal no contract says.
-ghost use Rattle.std.specs.Prelude.{◌≡◌};
-ghost use Rattle.debug_options.specs.Endings.{IsRefusal};
+ghost use Rattle.std.specs.Prelude.{◌≡◌, ◌⊎◌, true};
+ghost use Rattle.command_lines.specs.Outcome.{file_limit};
+ghost use Rattle.io_gate.specs.Streams.{Rose};
+ghost use Rattle.tool_refusals.specs.Endings.{IsSaid};
+ghost use Rattle.debug_options.specs.Endings.{is_refused};
 
+use crate::options::is_own;
 use command_lines::{Ending, WordsFault, WordsWhy};
-use emu_system::ElfFault;
-use io_gate::{Sink, put_all};
+use io_gate::Sink;
 use source_lines::TableFault;
 use std::alloc::{AllocError, Global};
 use std::fmt::Write;
-use tool_texts::{image_hint, push_file_line};
+use tool_refusals::{say, say_word};
 
 /// The most bytes of a file.
 pub const FILE_LIMIT: u64 = 67_108_864;
-
-/// The most bytes of the input.
-pub const INPUT_LIMIT: u64 = 16_777_216;
 
 /// What is said of a word of a line, or of what the line has not.
 fn said_of_words(why: WordsWhy) -> &'static str {
@@ -36,48 +36,18 @@ fn said_of_words(why: WordsWhy) -> &'static str {
     }
 }
 
-/// The little-endian number of two bytes at an offset, and 0 where the file is shorter.
-fn halfword(bytes: &[u8], offset: usize) -> u16 {
-    if bytes.len() < 2 || bytes.len() - 2 < offset {
-        return 0;
+/// What is said of the word at a place. An option of the debugger's own stands there only where it is given twice, or
+/// has no value.
+fn said_of_word(words: &[String], place: usize, why: WordsWhy) -> &'static str {
+    let unknown = matches!(why, WordsWhy::UnknownOption);
+    if !unknown || words.len() <= place || !is_own(words[place].as_str()) {
+        return said_of_words(why);
     }
-    bytes[offset] as u16 + 256 * bytes[offset + 1] as u16
-}
-
-/// What is said of a file that was refused as an image.
-fn said_of_image(bytes: &[u8], fault: ElfFault) -> &'static str {
-    image_hint(fault, halfword(bytes, 16), halfword(bytes, 18), false)
-}
-
-/// The line of a thing, and what is said of it. Err is want of memory.
-fn line_of(alloc: Global, name: &str, said: &str) -> Result<String, AllocError> {
-    let mut text = String::new(alloc);
-    push_file_line(&mut text, name, said)?;
-    Ok(text)
-}
-
-/// Puts what is said of a thing. Nothing is put where memory is wanting for that. False where the errors failed.
-fn say<E: Sink>(alloc: Global, name: &str, said: &str, errors: &mut E) -> bool {
-    match line_of(alloc, name, said) {
-        Err(_) => true,
-        Ok(text) => put_all(errors, text.as_bytes()).is_ok(),
-    }
-}
-
-/// Puts what is said of the word at a place, or of the whole line where there is no such word. False where the errors
-/// failed.
-fn say_word<E: Sink>(
-    alloc: Global,
-    words: &[String],
-    place: usize,
-    said: &str,
-    errors: &mut E,
-) -> bool {
-    if place < words.len() {
-        say(alloc, words[place].as_str(), said, errors)
+    said_of_words(if words.len() - place > 1 {
+        WordsWhy::Repeated
     } else {
-        say(alloc, "the command line", said, errors)
-    }
+        WordsWhy::MissingValue
+    })
 }
 
 /// Refuses the words of a run.
@@ -87,58 +57,37 @@ pub fn refuse_words<E: Sink>(
     fault: &WordsFault,
     errors: &mut E,
 ) -> Ending
-    ensures { IsRefusal result }
+    ensures kind { is_refused result ≡ true }
+    ensures said { IsSaid (Ending.WordsRefused fault.now) result (Rose (E.faults errors.old) (E.faults errors.new)) }
 {
-    if say_word(
+    let place = fault.place as usize;
+    let said = said_of_word(words, place, fault.why);
+    say_word(
         alloc,
         words,
-        fault.place as usize,
-        said_of_words(fault.why),
+        place,
+        said,
+        Ending::WordsRefused(*fault),
         errors,
-    ) {
-        Ending::WordsRefused(*fault)
-    } else {
-        Ending::ErrorsFault
-    }
-}
-
-/// Refuses a file of a name as an image.
-pub fn refuse_image<E: Sink>(
-    alloc: Global,
-    name: &str,
-    bytes: &[u8],
-    fault: ElfFault,
-    errors: &mut E,
-) -> Ending
-    ensures { IsRefusal result }
-{
-    if say(alloc, name, said_of_image(bytes, fault), errors) {
-        Ending::ImageRefused(fault)
-    } else {
-        Ending::ErrorsFault
-    }
+    )
 }
 
 /// Says that a file of a name can't be read.
 pub fn miss_file<E: Sink>(alloc: Global, name: &str, errors: &mut E) -> Ending
-    ensures { IsRefusal result }
+    ensures kind { is_refused result ≡ true }
+    ensures said { IsSaid Ending.FileFault result (Rose (E.faults errors.old) (E.faults errors.new)) }
 {
-    if say(alloc, name, "isn't there, or can't be read", errors) {
-        Ending::FileFault
-    } else {
-        Ending::ErrorsFault
-    }
+    let said = "isn't there, or can't be read";
+    say(alloc, name, said, Ending::FileFault, errors)
 }
 
 /// Refuses a file of a name that is too long.
 pub fn refuse_long_file<E: Sink>(alloc: Global, name: &str, errors: &mut E) -> Ending
-    ensures { IsRefusal result }
+    ensures kind { is_refused result ≡ true }
+    ensures said { IsSaid (Ending.TooLong file_limit) result (Rose (E.faults errors.old) (E.faults errors.new)) }
 {
-    if say(alloc, name, "has more than 67,108,864 bytes", errors) {
-        Ending::TooLong(FILE_LIMIT)
-    } else {
-        Ending::ErrorsFault
-    }
+    let said = "has more than 67,108,864 bytes";
+    say(alloc, name, said, Ending::TooLong(FILE_LIMIT), errors)
 }
 
 /// What is said of a table of lines. Err is want of memory.
@@ -149,23 +98,19 @@ fn said_of_table(alloc: Global, fault: &TableFault) -> Result<String, AllocError
     Ok(text)
 }
 
-/// Refuses a file of a name as a table of lines.
+/// Refuses a file of a name as a table of lines, unless memory is wanting for what is said of it.
 pub fn refuse_table<E: Sink>(
     alloc: Global,
     name: &str,
     fault: &TableFault,
     errors: &mut E,
 ) -> Ending
-    ensures { IsRefusal result }
+    ensures kind { is_refused result ≡ true }
+    ensures said { (result ≡ Ending.OutOfMemory) ⊎
+        IsSaid Ending.FileFault result (Rose (E.faults errors.old) (E.faults errors.new)) }
 {
     match said_of_table(alloc, fault) {
         Err(_) => Ending::OutOfMemory,
-        Ok(said) => {
-            if say(alloc, name, said.as_str(), errors) {
-                Ending::FileFault
-            } else {
-                Ending::ErrorsFault
-            }
-        }
+        Ok(said) => say(alloc, name, said.as_str(), Ending::FileFault, errors),
     }
 }

@@ -1,4 +1,5 @@
 //! The files of a program's source, as far as they are there.
+ghost use Rattle.std.specs.Prelude.{◌≡◌, IfErr};
 
 use command_lines::Ending;
 use io_gate::{Images, ImagesError};
@@ -90,7 +91,9 @@ pub fn read_sources<'a, F: Images>(
     alloc: Global,
     rows: &[Row<'a>],
     files: &mut F,
-) -> Result<Vec<ReadFile<'a>>, Ending> {
+) -> Result<Vec<ReadFile<'a>>, Ending>
+    ensures { IfErr result (λ ending. ending ≡ Ending.OutOfMemory) }
+{
     match read_files(alloc, rows, files) {
         Ok(read) => Ok(read),
         Err(_) => Err(Ending::OutOfMemory),
@@ -116,7 +119,9 @@ fn lines_of<'a>(
 pub fn seen_sources<'a>(
     alloc: Global,
     read: &'a [ReadFile<'a>],
-) -> Result<Vec<SourceFile<'a>>, Ending> {
+) -> Result<Vec<SourceFile<'a>>, Ending>
+    ensures { IfErr result (λ ending. ending ≡ Ending.OutOfMemory) }
+{
     match lines_of(alloc, read) {
         Ok(sources) => Ok(sources),
         Err(_) => Err(Ending::OutOfMemory),

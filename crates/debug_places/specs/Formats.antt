@@ -1,9 +1,11 @@
 -- How memory and registers are written, as gdb has it: behind a slash stand a count, a letter of the notation and a
 -- letter of the size, each where it is wanted. Of several letters of a kind the last counts.
-use Rattle.std.specs.Prelude.{ℕ, ◌+◌, ◌-◌, ◌*◌, Bool, ◌&&◌, List, [], ◌∷◌, Option, Some, None, nat_eq, nat_le, if◌then◌else◌}
+use Rattle.std.specs.Prelude.{ℕ, ◌+◌, ◌-◌, ◌*◌, Bool, ◌&&◌, List, [], ◌∷◌, Option, Some, None, nat_eq, nat_le}
+use Rattle.std.specs.Prelude.{if◌then◌else◌}
 use Rattle.debug_places.specs.declared.formats.Format.{Format}
 use Rattle.debug_places.specs.declared.formats.Notation.{Notation}
-use Rattle.debug_places.specs.declared.formats.Notation.TheVariants.{Hexadecimal, Signed, Unsigned, Binary, Character, Text, Instruction}
+use Rattle.debug_places.specs.declared.formats.Notation.TheVariants.{Hexadecimal, Signed, Unsigned, Binary, Character}
+use Rattle.debug_places.specs.declared.formats.Notation.TheVariants.{Text, Instruction}
 
 -- the greatest count
 abbrev pub most_count : ℕ

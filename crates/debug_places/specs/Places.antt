@@ -1,6 +1,7 @@
 -- Places: addresses as a person writes them. A place is a number, a register or a symbol, also with a number added or
 -- taken away, all modulo 2^64, or a line of the source. `main`, `main+8`, `*0x400100`, `sp+16`, `spoil.c:12`.
-use Rattle.std.specs.Prelude.{ℕ, ◌-◌, ◌%◌, ◌^◌, Bool, not, ◌&&◌, List, drop, codes, Option, Some, None, Result, Ok, Err, nat_eq, if◌then◌else◌}
+use Rattle.std.specs.Prelude.{ℕ, ◌-◌, ◌%◌, ◌^◌, Bool, not, ◌&&◌, List, drop, codes, Option, Some, None, Result, Ok, Err}
+use Rattle.std.specs.Prelude.{nat_eq, if◌then◌else◌}
 use Rattle.std.specs.List.{find, starts_with}
 use Rattle.std.specs.Option.{option_map}
 use Rattle.elf_symbols.specs.Lookup.{address_of, has_name}

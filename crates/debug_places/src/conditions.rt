@@ -6,7 +6,7 @@ use debug_names::{Lane, Register, lane_of, register_of};
 use line_words::number_of_word;
 
 /// What a condition compares.
-#[derive(Clone, Copy, Debug, PartialEq, Eq)]
+#[derive(Clone, Copy)]
 pub enum Operand {
     Number(u64),
     Value(Register),
@@ -14,7 +14,7 @@ pub enum Operand {
 }
 
 /// How two numbers without a sign compare.
-#[derive(Clone, Copy, Debug, PartialEq, Eq)]
+#[derive(Clone, Copy)]
 pub enum Compare {
     Equal,
     Unequal,
@@ -25,7 +25,7 @@ pub enum Compare {
 }
 
 /// A condition.
-#[derive(Clone, Copy, Debug, PartialEq, Eq)]
+#[derive(Clone, Copy)]
 pub struct Condition {
     pub left: Operand,
     pub compare: Compare,

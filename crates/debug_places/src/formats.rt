@@ -17,7 +17,7 @@ ghost use Rattle.debug_places.specs.Formats.{
 const MOST_COUNT: u32 = 4096;
 
 /// How a value is written.
-#[derive(Clone, Copy, Debug, PartialEq, Eq)]
+#[derive(Clone, Copy)]
 pub enum Notation {
     Hexadecimal,
     /// Decimal, as a number with a sign.
@@ -31,7 +31,7 @@ pub enum Notation {
 }
 
 /// What stands behind a slash: a count, 0 where none is told, a notation and how many bytes a value has.
-#[derive(Clone, Copy, Debug, PartialEq, Eq)]
+#[derive(Clone, Copy)]
 pub struct Format {
     pub count: u32,
     pub notation: Option<Notation>,

@@ -1,5 +1,5 @@
-//! What a person at the debugger writes of a program: places, by its symbols, conditions of its registers and lanes, and
-//! how memory and registers are to be written.
+//! What a person at the debugger writes of a program: places, by its symbols, conditions of its registers and lanes,
+//! and how memory and registers are to be written.
 #![tactic(auto)]
 
 mod conditions;

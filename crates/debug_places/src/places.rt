@@ -28,14 +28,14 @@ use line_words::number_of_word;
 use source_lines::{Row, address_of_line};
 
 /// What a place begins with: an address, or the value of a register.
-#[derive(Clone, Copy, Debug, PartialEq, Eq)]
+#[derive(Clone, Copy)]
 pub enum Base {
     At(u64),
     Of(Register),
 }
 
 /// A place: what is added to its base, modulo 2^64.
-#[derive(Clone, Copy, Debug, PartialEq, Eq)]
+#[derive(Clone, Copy)]
 pub struct Place {
     pub base: Base,
     pub plus: u64,

@@ -2,7 +2,7 @@
 ghost use Rattle.std.specs.Prelude.{◌≡◌};
 
 /// Why a line is no command.
-#[derive(Clone, Copy, Debug, PartialEq, Eq)]
+#[derive(Clone, Copy)]
 pub enum Why {
     /// The first word names no command.
     UnknownCommand,
@@ -24,7 +24,7 @@ pub enum Why {
 }
 
 /// A refused line: why, and the place of the word, counted from 0. Where a word is missing it is the number of words.
-#[derive(Clone, Copy, Debug, PartialEq, Eq)]
+#[derive(Clone, Copy)]
 pub struct Refusal {
     pub why: Why,
     pub place: usize,

@@ -11,7 +11,7 @@ use emu_bits::Reg;
 use emu_machine::Machine;
 
 /// What a command seeks beside the stops.
-#[derive(Clone, Copy, Debug, PartialEq, Eq)]
+#[derive(Clone, Copy)]
 pub enum Aim {
     /// Nothing.
     Stops,

@@ -1,5 +1,6 @@
 //! The breaks and watches of a session.
-ghost use Rattle.std.specs.Prelude.{◌≡◌, ◌<◌, ◌-◌, ◌^◌, false, nat_eq, not, filter, length, map, slice_get, IfSome, OnOk, OnErr};
+ghost use Rattle.std.specs.Prelude.{◌≡◌, ◌<◌, ◌-◌, ◌^◌, false, nat_eq, not, filter, length, map, slice_get, IfSome};
+ghost use Rattle.std.specs.Prelude.{OnOk, OnErr};
 ghost use Rattle.std.specs.List.{list_any};
 ghost use Rattle.debug_points.specs.declared.points.Point.{Point};
 ghost use Rattle.debug_points.specs.Points.{
@@ -29,7 +30,7 @@ use std::alloc::{AllocError, Global};
 use std::marker::Model;
 
 /// What stops the machine.
-#[derive(Clone, Copy, Debug, PartialEq, Eq)]
+#[derive(Clone, Copy)]
 pub enum What {
     /// The program counter stands at an address, and the condition holds.
     Break(u64, Option<Condition>),
@@ -38,7 +39,7 @@ pub enum What {
 }
 
 /// A break or watch.
-#[derive(Clone, Copy, Debug, PartialEq, Eq)]
+#[derive(Clone, Copy)]
 pub struct Point {
     /// Its number, from 1.
     pub number: u64,
@@ -284,7 +285,8 @@ impl Points {
     pub fn stops(&mut self, place: usize) -> bool
         requires { place < length self.old.items }
         ensures stops { (p : Point) → slice_get self.old.items place ≡ Some p → result ≡ nat_eq p.ignored 0 }
-        ensures behind { (p : Point) → slice_get self.old.items place ≡ Some p → self.new ≡ behind_met place p self.old }
+        ensures behind { (p : Point) → slice_get self.old.items place ≡ Some p →
+            self.new ≡ behind_met place p self.old }
     {
         let point = self.items[place];
         self.items[place] = met_again(&point);

@@ -1,5 +1,6 @@
 -- Breaks and watches as they are shown.
-use Rattle.std.specs.Prelude.{ℕ, Bool, List, [], ◌++◌, codes, flat_map, length, nat_eq, Option, Some, None, if◌then◌else◌}
+use Rattle.std.specs.Prelude.{ℕ, Bool, List, [], ◌++◌, codes, flat_map, length, nat_eq, Option, Some, None}
+use Rattle.std.specs.Prelude.{if◌then◌else◌}
 use Rattle.std.specs.Fmt.{decimal}
 use Rattle.elf_symbols.specs.declared.Symbol.{Symbol}
 use Rattle.emu_run.specs.Text.{newline}

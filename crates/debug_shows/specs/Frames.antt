@@ -1,6 +1,7 @@
 -- The calls that led to where a machine stands, by the frame records of the Arm procedure call standard: X29 is the
 -- address of a record, which has the address of the one before it, and behind that the address to return to.
-use Rattle.std.specs.Prelude.{ℕ, zero, suc, ◌+◌, ◌%◌, Bool, not, ◌&&◌, ◌||◌, is_some, List, [], ◌++◌, codes, nat_eq, nat_lt, if◌then◌else◌}
+use Rattle.std.specs.Prelude.{ℕ, zero, suc, ◌+◌, ◌%◌, Bool, not, ◌&&◌, ◌||◌, is_some, List, [], ◌++◌, codes, nat_eq}
+use Rattle.std.specs.Prelude.{nat_lt, if◌then◌else◌}
 use Rattle.std.specs.Fmt.{decimal}
 use Rattle.elf_symbols.specs.declared.Symbol.{Symbol}
 use Rattle.emu_model.specs.Access.{Memory, address, value}

@@ -1,5 +1,6 @@
 -- Memory as `x` shows it, and the instructions of a function.
-use Rattle.std.specs.Prelude.{ℕ, zero, suc, ◌+◌, ◌*◌, ◌/◌, ◌%◌, List, [], ◌∷◌, ◌++◌, codes, max, min, Option, Some, None, unwrap_or, nat_eq, nat_le, if◌then◌else◌}
+use Rattle.std.specs.Prelude.{ℕ, zero, suc, ◌+◌, ◌*◌, ◌/◌, ◌%◌, List, [], ◌∷◌, ◌++◌, codes, max, min, Option, Some}
+use Rattle.std.specs.Prelude.{None, unwrap_or, nat_eq, nat_le, if◌then◌else◌}
 use Rattle.elf_symbols.specs.Lookup.{last_reaching}
 use Rattle.elf_symbols.specs.declared.Symbol.{Symbol}
 use Rattle.emu_model.specs.Access.{Memory, address, byte_at, value}
@@ -9,7 +10,8 @@ use Rattle.emu_run.specs.Registers.{lines_of}
 use Rattle.emu_run.specs.Text.{newline}
 use Rattle.debug_places.specs.declared.formats.Format.{Format}
 use Rattle.debug_places.specs.declared.formats.Notation.{Notation}
-use Rattle.debug_places.specs.declared.formats.Notation.TheVariants.{Hexadecimal, Signed, Unsigned, Binary, Character, Text, Instruction}
+use Rattle.debug_places.specs.declared.formats.Notation.TheVariants.{Hexadecimal, Signed, Unsigned, Binary, Character}
+use Rattle.debug_places.specs.declared.formats.Notation.TheVariants.{Text, Instruction}
 use Rattle.debug_texts.specs.Numbers.{character, number_text}
 use Rattle.debug_shows.specs.Places.{instruction_text, place_text}
 

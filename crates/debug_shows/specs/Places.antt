@@ -1,5 +1,6 @@
 -- Where a machine stands: the step, the place by the symbols of the program, and the instruction.
-use Rattle.std.specs.Prelude.{ℕ, ◌+◌, ◌-◌, List, [], ◌∷◌, ◌++◌, codes, flat_map, Option, Some, None, nat_eq, if◌then◌else◌}
+use Rattle.std.specs.Prelude.{ℕ, ◌+◌, ◌-◌, List, [], ◌∷◌, ◌++◌, codes, flat_map, Bool, ◌||◌, Option, Some, None, nat_eq}
+use Rattle.std.specs.Prelude.{nat_lt, if◌then◌else◌}
 use Rattle.std.specs.Fmt.{decimal}
 use Rattle.asm_text.specs.Disassembly.{word_text}
 use Rattle.elf_symbols.specs.Lookup.{last_reaching}
@@ -21,10 +22,14 @@ symbol_name name = flat_map (λ b. character b ∷ []) name
 abbrev pub reached_name : ℕ → Symbol → List ℕ
 reached_name a s = codes " <" ++ symbol_name s.name.now ++ offset_text (a - s.address) ++ codes ">"
 
+-- a symbol whose size isn't known is told up to 64 KiB behind it
+abbrev pub is_told : ℕ → Symbol → Bool
+is_told a s = nat_lt 0 s.size || nat_lt (a - s.address) 65536
+
 -- nothing where no symbol reaches the address
 abbrev pub symbol_text : ℕ → Option Symbol → List ℕ
 symbol_text a None = []
-symbol_text a (Some s) = reached_name a s
+symbol_text a (Some s) = if is_told a s then reached_name a s else []
 
 -- `0x400108 <main+8>`
 abbrev pub place_text : List Symbol → ℕ → List ℕ

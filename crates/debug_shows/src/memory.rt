@@ -358,8 +358,8 @@ fn push_function(
     address: u64,
     symbol: &Symbol<'_>,
 ) -> Result<(), AllocError>
-    ensures { OnOk result
-        (string_bytes text.new ≡ string_bytes text.old ++ reached_text symbols.now mem.now.memory pc address symbol.now) }
+    ensures { OnOk result (string_bytes text.new ≡ string_bytes text.old ++
+        reached_text symbols.now mem.now.memory pc address symbol.now) }
 {
     if symbol.size < 4 {
         return push_lines(text, symbols, mem, pc, plain_instructions(), address);

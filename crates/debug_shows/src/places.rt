@@ -5,7 +5,15 @@ ghost use Rattle.asm_text.specs.Texts.{text as text_of};
 ghost use Rattle.emu_run.specs.Step.{decode as instruction_of};
 ghost use Rattle.emu_run.specs.Text.{hex};
 ghost use Rattle.debug_texts.specs.Numbers.{character};
-ghost use Rattle.debug_shows.specs.Places.{instruction_text, offset_text, place_text, reached_name, symbol_name, where_text};
+ghost use Rattle.debug_shows.specs.Places.{
+  instruction_text,
+  is_told,
+  offset_text,
+  place_text,
+  reached_name,
+  symbol_name,
+  where_text,
+};
 
 use arrayvec::ArrayString;
 use debug_texts::{character, push_decimal, push_digits, push_hex};
@@ -16,6 +24,9 @@ use emu_machine::Machine;
 use guest_mem::Mem;
 use insn_decode::{Insn, decode};
 use std::alloc::AllocError;
+
+/// How many bytes behind a symbol whose size isn't known it is told.
+const MOST_BEHIND: u64 = 65_536;
 
 /// Appends how far an address stands behind a symbol's.
 fn push_offset(text: &mut String, n: u64) -> Result<(), AllocError>
@@ -51,9 +62,16 @@ pub fn push_place(text: &mut String, symbols: &[Symbol<'_>], address: u64) -> Re
 {
     push_hex(text, address)?;
     match symbol_at(symbols, address) {
-        None => Ok(()),
-        Some(symbol) => push_reached(text, &symbol, address),
+        Some(symbol) if is_told(&symbol, address) => push_reached(text, &symbol, address),
+        Some(_) | None => Ok(()),
     }
+}
+
+/// Whether an address is told by a symbol that reaches it: by one whose size isn't known if it is near.
+fn is_told(symbol: &Symbol<'_>, address: u64) -> bool
+    ensures { result ≡ is_told address symbol.now }
+{
+    symbol.size > 0 || address.saturating_sub(symbol.address) < MOST_BEHIND
 }
 
 /// Appends the place of an address by the symbol that reaches it.

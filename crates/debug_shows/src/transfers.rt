@@ -9,7 +9,7 @@ use insn_decode::decode;
 use vec_regs::VecRegs;
 
 /// A transfer of the active lanes of a register.
-#[derive(Clone, Copy, Debug, PartialEq, Eq)]
+#[derive(Clone, Copy)]
 pub struct Transfer {
     pub register: Reg,
     pub size: Esize,

@@ -1,6 +1,7 @@
 -- The lanes of registers beside each other, lane 0 first: `>` marks a lane that each predicate among the registers has
 -- active, and `*` one that the last step changed, by the registers before it.
-use Rattle.std.specs.Prelude.{ℕ, ◌*◌, ◌/◌, Bool, false, not, ◌&&◌, List, [], ◌∷◌, ◌++◌, codes, get_or, flat_map, Option, Some, None, nat_eq, nat_lt, if◌then◌else◌}
+use Rattle.std.specs.Prelude.{ℕ, ◌*◌, ◌/◌, Bool, false, not, ◌&&◌, List, [], ◌∷◌, ◌++◌, codes, get_or, flat_map, Option}
+use Rattle.std.specs.Prelude.{Some, None, nat_eq, nat_lt, if◌then◌else◌}
 use Rattle.std.specs.Fmt.{decimal}
 use Rattle.std.specs.List.{list_all}
 use Rattle.emu_bits.specs.Fields.{bit}

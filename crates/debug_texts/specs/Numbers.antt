@@ -1,8 +1,10 @@
 -- Numbers in the notations of a person's session.
-use Rattle.std.specs.Prelude.{ℕ, zero, suc, ◌+◌, ◌-◌, ◌/◌, ◌%◌, ◌^◌, false, List, [], ◌∷◌, ◌++◌, codes, nat_lt, nat_le, ◌&&◌, if◌then◌else◌}
+use Rattle.std.specs.Prelude.{ℕ, zero, suc, ◌+◌, ◌-◌, ◌/◌, ◌%◌, ◌^◌, false, List, [], ◌∷◌, ◌++◌, codes, nat_lt, nat_le}
+use Rattle.std.specs.Prelude.{◌&&◌, if◌then◌else◌}
 use Rattle.std.specs.Fmt.{decimal, digits}
 use Rattle.debug_places.specs.declared.formats.Notation.{Notation}
-use Rattle.debug_places.specs.declared.formats.Notation.TheVariants.{Hexadecimal, Signed, Unsigned, Binary, Character, Text, Instruction}
+use Rattle.debug_places.specs.declared.formats.Notation.TheVariants.{Hexadecimal, Signed, Unsigned, Binary, Character}
+use Rattle.debug_places.specs.declared.formats.Notation.TheVariants.{Text, Instruction}
 
 abbrev pub hex_text : ℕ → List ℕ
 hex_text n = codes "0x" ++ digits 16 false n

@@ -1,5 +1,6 @@
 -- Registers and lanes as `print` shows them.
-use Rattle.std.specs.Prelude.{ℕ, ◌*◌, ◌/◌, Bool, false, List, ◌++◌, codes, get_or, if◌then◌else◌, Option, Some, None, unwrap_or}
+use Rattle.std.specs.Prelude.{ℕ, ◌*◌, ◌/◌, Bool, false, List, ◌++◌, codes, get_or, if◌then◌else◌, nat_eq, Option, Some}
+use Rattle.std.specs.Prelude.{None, unwrap_or}
 use Rattle.std.specs.Fmt.{decimal}
 use Rattle.emu_bits.specs.Flags.{size_of}
 use Rattle.emu_bits.specs.declared.flags.Esize.{Esize}
@@ -18,9 +19,13 @@ use Rattle.debug_texts.specs.Numbers.{hex_text, number_text}
 
 -- ---- scalar registers
 
+-- `x3`; `xzr` for register 31
+abbrev pub general_name : List ℕ → ℕ → List ℕ
+general_name letter r = if nat_eq r 31 then letter ++ codes "zr" else letter ++ decimal r
+
 abbrev pub register_name : Register → List ℕ
-register_name (X r) = codes "x" ++ decimal r
-register_name (W r) = codes "w" ++ decimal r
+register_name (X r) = general_name (codes "x") r
+register_name (W r) = general_name (codes "w") r
 register_name Sp = codes "sp"
 register_name Pc = codes "pc"
 register_name Nzcv = codes "nzcv"

@@ -2,7 +2,8 @@
 ghost use Rattle.std.specs.Prelude.{◌≡◌, ◌≤◌, ◌<◌, ◌^◌, ◌++◌, ◌∷◌, [], string_bytes, OnOk};
 ghost use Rattle.std.specs.Fmt.{decimal};
 ghost use Rattle.emu_run.specs.Text.{hex, hex_digit};
-ghost use Rattle.debug_texts.specs.Numbers.{bit_digit, bits_text, character, character_text, hex_text, number_text, signed_text};
+ghost use Rattle.debug_texts.specs.Numbers.{bit_digit, bits_text, character, character_text, hex_text, number_text};
+ghost use Rattle.debug_texts.specs.Numbers.{signed_text};
 
 use debug_places::Notation;
 use std::alloc::AllocError;

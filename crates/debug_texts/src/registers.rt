@@ -8,6 +8,7 @@ ghost use Rattle.debug_texts.specs.Registers.{
   ffr_text,
   flag_digit,
   flags_text,
+  general_name,
   lane_name,
   lanes_shown,
   noted,
@@ -54,13 +55,24 @@ fn push_numbered(text: &mut String, letter: &str, k: u32) -> Result<(), AllocErr
     push_decimal(text, u64::from(k))
 }
 
+/// Appends the name of a general-purpose register; that of register 31, which reads as 0, has no number.
+fn push_general(text: &mut String, letter: &str, r: Reg) -> Result<(), AllocError>
+    ensures { OnOk result (string_bytes text.new ≡ string_bytes text.old ++ general_name letter.now r) }
+{
+    if r.get() != 31 {
+        return push_numbered(text, letter, r.get());
+    }
+    text.push_str(letter)?;
+    text.push_str("zr")
+}
+
 /// Appends the name of a scalar register.
 pub fn push_name(text: &mut String, register: &Register) -> Result<(), AllocError>
     ensures { OnOk result (string_bytes text.new ≡ string_bytes text.old ++ register_name register.now) }
 {
     match *register {
-        Register::X(r) => push_numbered(text, "x", r.get()),
-        Register::W(r) => push_numbered(text, "w", r.get()),
+        Register::X(r) => push_general(text, "x", r),
+        Register::W(r) => push_general(text, "w", r),
         Register::Sp => text.push_str("sp"),
         Register::Pc => text.push_str("pc"),
         Register::Nzcv => text.push_str("nzcv"),
@@ -174,7 +186,8 @@ fn flag_digit(flag: bool) -> &'static str
 
 /// Appends the flags of the lanes of a predicate, lane 0 first.
 fn push_flags(text: &mut String, vec: &VecRegs, k: Pred, size: Esize) -> Result<(), AllocError>
-    ensures { OnOk result (string_bytes text.new ≡ string_bytes text.old ++ flags_text (read_p vec.now k) vec.now.bits size) }
+    ensures { OnOk result (string_bytes text.new ≡ string_bytes text.old ++
+        flags_text (read_p vec.now k) vec.now.bits size) }
 {
     'lanes: for i in 0..vec.length().lanes(size) {
         text.push_str(flag_digit(vec.p_bit(k, i * (size.bits() / 8))))?;

@@ -2,7 +2,8 @@
 --
 -- A test is asked of a machine that a step led to: of the address of that step's instruction, of the machine, and of
 -- the accesses of the step. Behind no step the address is the machine's own, and there are no accesses.
-use Rattle.std.specs.Prelude.{ℕ, zero, suc, ◌+◌, ◌-◌, ◌^◌, min, max, Bool, true, false, List, [], Option, Some, None, unwrap_or, nat_le, if◌then◌else◌}
+use Rattle.std.specs.Prelude.{ℕ, zero, suc, ◌+◌, ◌-◌, ◌^◌, min, max, Bool, true, false, List, [], Option, Some, None}
+use Rattle.std.specs.Prelude.{unwrap_or, nat_le, if◌then◌else◌}
 use Rattle.emu_model.specs.declared.access.Access.{Access}
 use Rattle.emu_model.specs.declared.trap.Ended.{Ended}
 use Rattle.emu_model.specs.declared.trap.Ended.TheVariants.{Exit, Trap}

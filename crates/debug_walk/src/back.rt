@@ -1,20 +1,22 @@
 //! Back to the last machine that meets a test.
-ghost use Rattle.std.specs.Prelude.{◌≡◌, ◌≤◌, ◌<◌, ◌+◌, ◌-◌, ◌^◌, ℕ, List, [], Option, Some, None, IfSome, true, false, is_some, nat_eq, nat_le, ◌&&◌, if◌then◌else◌};
+ghost use Rattle.std.specs.Prelude.{◌≡◌, ◌≤◌, ◌<◌, ◌+◌, ◌-◌, ◌^◌, ℕ, List, [], Option, Some, None, IfSome, true, false};
+ghost use Rattle.std.specs.Prelude.{is_some, nat_eq, nat_le, ◌&&◌, if◌then◌else◌};
 ghost use Rattle.emu_model.specs.State.{State};
 ghost use Rattle.emu_run.specs.Run.{goes_on, until_end};
 ghost use Rattle.emu_run.specs.Step.{accesses};
 ghost use Rattle.emu_machine.specs.Machines.{has_ended};
 ghost use Rattle.dbg_model.specs.Session.{Course, stepped, walked};
 ghost use Rattle.dbg_back.specs.Walks.{CanWalk, Does, IsWalk};
-ghost use Rattle.debug_walk.specs.Walks.{at_step, first_asked, last_met, machines_before, made_before, sought_back, unasked};
+ghost use Rattle.debug_walk.specs.Walks.{at_step, first_asked, last_met, machines_before, made_before, sought_back};
+ghost use Rattle.debug_walk.specs.Walks.{unasked};
 
 use crate::steps::{go_to, one_step};
 use crate::test::Test;
 use dbg_back::{Dropped, Trail, is_below, restore_before};
 use emu_machine::{Ended, Machine};
 
-/// How many machines of the run stand before one, 2^64 - 1 at most: one that a trap ended stands behind the one that has
-/// counted as many steps.
+/// How many machines of the run stand before one, 2^64 - 1 at most: one that a trap ended stands behind the one that
+/// has counted as many steps.
 pub fn machines_before(machine: &Machine) -> u64
     ensures { result ≡ machines_before machine.now.parts }
 {
@@ -52,8 +54,8 @@ fn found_here<T: Test>(test: &T, machine: &Machine, least: u64) -> Option<u64>
     }
 }
 
-/// What is found behind a step of the instruction at an address: the machine, if it is asked and meets the test, or what
-/// was found before.
+/// What is found behind a step of the instruction at an address: the machine, if it is asked and meets the test, or
+/// what was found before.
 fn found_behind<T: Test>(
     test: &T,
     from: u64,

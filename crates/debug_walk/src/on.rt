@@ -14,7 +14,7 @@ use emu_machine::Machine;
 use io_gate::Sink;
 
 /// How a walk ended: whether its last machine met the test, and whether a stream failed.
-#[derive(Clone, Copy, Debug, PartialEq, Eq)]
+#[derive(Clone, Copy)]
 pub struct Found {
     pub met: bool,
     pub end: BackEnd,

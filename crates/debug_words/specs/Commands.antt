@@ -1,7 +1,9 @@
 -- The command of a line's words, by the symbols of a program, or its first refusal. `command_of`, at the end, is the
 -- whole of it. The names and their short forms are those of gdb where it has the command; the rest is this project's
 -- own choice, as docs/DEBUGGING.md has it.
-use Rattle.std.specs.Prelude.{ℕ, zero, suc, ◌+◌, ◌-◌, ◌^◌, Bool, true, false, ◌&&◌, ◌||◌, List, [], length, drop, get_or, codes, Option, Some, None, is_none, Result, Ok, Err, is_ok, nat_eq, nat_lt, nat_le, if◌then◌else◌}
+use Rattle.std.specs.Prelude.{ℕ, zero, suc, ◌+◌, ◌-◌, ◌^◌, Bool, true, false, ◌&&◌, ◌||◌, List, [], length, drop}
+use Rattle.std.specs.Prelude.{get_or, codes, Option, Some, None, is_none, Result, Ok, Err, is_ok, nat_eq, nat_lt}
+use Rattle.std.specs.Prelude.{nat_le, if◌then◌else◌}
 use Rattle.std.specs.List.{starts_with}
 use Rattle.std.specs.Str.{bytes_eq}
 use Rattle.elf_symbols.specs.declared.Symbol.{Symbol}
@@ -16,7 +18,8 @@ use Rattle.debug_words.specs.declared.commands.Command.TheVariants as commands
 use Rattle.debug_words.specs.declared.commands.Extent.{Extent}
 use Rattle.debug_words.specs.declared.commands.Extent.TheVariants.{Length, Upto}
 use Rattle.debug_words.specs.declared.commands.Move.{Move}
-use Rattle.debug_words.specs.declared.commands.Move.TheVariants.{Continue, Step, Next, StepLine, NextLine, StepBack, NextBack, ContinueBack}
+use Rattle.debug_words.specs.declared.commands.Move.TheVariants.{Continue, Step, Next, StepLine, NextLine, StepBack}
+use Rattle.debug_words.specs.declared.commands.Move.TheVariants.{NextBack, ContinueBack}
 use Rattle.debug_words.specs.declared.commands.WatchKind.{WatchKind}
 use Rattle.debug_words.specs.declared.commands.WatchKind.TheVariants.{Writes, Reads, Both}
 use Rattle.debug_places.specs.declared.conditions.Condition.{Condition}
@@ -24,8 +27,9 @@ use Rattle.debug_places.specs.declared.formats.Format.{Format}
 use Rattle.debug_places.specs.declared.places.Place.{Place}
 use Rattle.debug_places.specs.declared.refusals.Refusal.{Refusal}
 use Rattle.debug_places.specs.declared.refusals.Why.{Why}
-use Rattle.debug_places.specs.declared.refusals.Why.TheVariants.{UnknownCommand, BadFormat, MissingWord, ExtraWord, BadNumber, OutOfRange, UnknownRegister, UnknownWord, BadCondition}
-use Rattle.debug_names.specs.declared.registers.Register.{Register}
+use Rattle.debug_places.specs.declared.refusals.Why.TheVariants.{UnknownCommand, BadFormat, MissingWord, ExtraWord}
+use Rattle.debug_places.specs.declared.refusals.Why.TheVariants.{BadNumber, OutOfRange, UnknownRegister, UnknownWord}
+use Rattle.debug_places.specs.declared.refusals.Why.TheVariants.{BadCondition}
 use Rattle.debug_names.specs.declared.registers.Thing.{Thing}
 use Rattle.debug_names.specs.declared.verbs.Verb.{Verb}
 use Rattle.debug_names.specs.declared.verbs.Verb.TheVariants as verbs
@@ -149,14 +153,26 @@ disassemble_of symbols rows words =
 
 -- ---- what is shown
 
-abbrev pub register_or_all : List (List ℕ) → Option Register → Result Command Refusal
-register_or_all words None = refused UnknownRegister 2
-register_or_all words (Some register) = whole words 3 (commands.InfoRegisters (Some register))
+-- the place that there is, or else this one, where its word names no scalar register
+abbrev pub or_no_register : List (List ℕ) → ℕ → Option ℕ → Option ℕ
+or_no_register words place (Some first) = Some first
+or_no_register words place None = if is_none (register_of (word_at words place)) then Some place else None
+
+-- the first of the n words behind `info registers` that names no scalar register
+unfoldable pub first_no_register : List (List ℕ) → ℕ → Option ℕ
+first_no_register words zero = None
+first_no_register words (suc n) = or_no_register words (n + 2) (first_no_register words n)
+
+abbrev pub registers_known : ℕ → Option ℕ → Result Command Refusal
+registers_known count (Some place) = refused UnknownRegister place
+registers_known count None = Ok (commands.InfoRegisters count)
+
+abbrev pub registers_among : List (List ℕ) → ℕ → Result Command Refusal
+registers_among words count = registers_known count (first_no_register words count)
 
 abbrev pub registers_of : List (List ℕ) → Result Command Refusal
 registers_of words =
-    if has_word words 2 then register_or_all words (register_of (word_at words 2))
-    else Ok (commands.InfoRegisters None)
+    if has_word words 2 then registers_among words (length words - 2) else Ok (commands.InfoRegisters 0)
 
 abbrev pub symbol_of : List Symbol → List Row → List (List ℕ) → Result Command Refusal
 symbol_of symbols rows words =
@@ -189,7 +205,8 @@ abbrev pub is_line : List ℕ → Bool
 is_line name = starts_with nat_eq (codes "line") name
 
 abbrev pub info_named : List Symbol → List Row → List (List ℕ) → List ℕ → Result Command Refusal
-info_named symbols rows words name = info_by symbols rows words (is_points name) (is_registers name) (is_symbol name) (is_line name)
+info_named symbols rows words name =
+    info_by symbols rows words (is_points name) (is_registers name) (is_symbol name) (is_line name)
 
 abbrev pub info_of : List Symbol → List Row → List (List ℕ) → Result Command Refusal
 info_of symbols rows words =

@@ -1,11 +1,11 @@
 //! The commands of the debugger.
 
-use debug_names::{Register, Thing, Verb};
+use debug_names::{Thing, Verb};
 use debug_places::{Condition, Format, Place};
 use emu_bits::Esize;
 
 /// Which accesses a watch stops at.
-#[derive(Clone, Copy, Debug, PartialEq, Eq)]
+#[derive(Clone, Copy)]
 pub enum WatchKind {
     Writes,
     Reads,
@@ -13,7 +13,7 @@ pub enum WatchKind {
 }
 
 /// How a command goes on or back, so often.
-#[derive(Clone, Copy, Debug, PartialEq, Eq)]
+#[derive(Clone, Copy)]
 pub enum Move {
     /// To the next stop.
     Continue,
@@ -31,7 +31,7 @@ pub enum Move {
 }
 
 /// What is done to a break or watch, or to all.
-#[derive(Clone, Copy, Debug, PartialEq, Eq)]
+#[derive(Clone, Copy)]
 pub enum Change {
     Delete,
     Disable,
@@ -39,7 +39,7 @@ pub enum Change {
 }
 
 /// How far a search reaches.
-#[derive(Clone, Copy, Debug, PartialEq, Eq)]
+#[derive(Clone, Copy)]
 pub enum Extent {
     /// Over so many bytes, 1 to 67,108,864.
     Length(u64),
@@ -48,7 +48,7 @@ pub enum Extent {
 }
 
 /// A command.
-#[derive(Clone, Copy, Debug, PartialEq, Eq)]
+#[derive(Clone, Copy)]
 pub enum Command {
     /// Adds a break at a place, which stops where its condition holds, and only once where that is told.
     Break(Place, Option<Condition>, bool),
@@ -60,8 +60,9 @@ pub enum Command {
     Ignore(u64, u64),
     /// Shows the breaks and watches.
     InfoPoints,
-    /// Shows a scalar register, or all and the vector length.
-    InfoRegisters(Option<Register>),
+    /// Shows so many scalar registers, which the words behind `info registers` name; where there are none, all and the
+    /// vector length.
+    InfoRegisters(usize),
     /// Shows the symbol of a place.
     InfoSymbol(Place),
     /// Shows the line of the source of a place, or of where the machine stands.

@@ -4,7 +4,9 @@
 
 mod arguments;
 mod commands;
+mod pieces;
 mod readers;
 
 pub use commands::{Change, Command, Extent, Move, WatchKind};
+pub use pieces::cut_words;
 pub use readers::command_of;

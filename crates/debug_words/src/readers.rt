@@ -1,5 +1,5 @@
 //! The command that a line's words are.
-ghost use Rattle.std.specs.Prelude.{◌≡◌, ◌≤◌, ◌<◌, map, length};
+ghost use Rattle.std.specs.Prelude.{◌≡◌, ◌≤◌, ◌<◌, ◌+◌, map, length};
 ghost use Rattle.debug_places.specs.Formats.{plain_format};
 ghost use Rattle.debug_words.specs.Commands.{
   break_of,
@@ -11,6 +11,7 @@ ghost use Rattle.debug_words.specs.Commands.{
   find_among,
   find_of,
   find_or_refuse,
+  first_no_register,
   first_no_value,
   first_unknown,
   goto_of,
@@ -38,12 +39,14 @@ ghost use Rattle.debug_words.specs.Commands.{
   line_of,
   list_of,
   numbered,
+  or_no_register,
   or_no_value,
   or_unknown,
   print_by,
   print_of,
   read,
-  register_or_all,
+  registers_among,
+  registers_known,
   registers_of,
   set_of,
   slice_of,
@@ -63,9 +66,7 @@ use crate::arguments::{
     condition_at, has_word, number_at, number_if, number_in, number_or, place_at, whole, word_at,
 };
 use crate::commands::{Change, Command, Extent, Move, WatchKind};
-use debug_names::{
-    Register, Thing, Verb, begins, register_of, size_of_letter, thing_of, vector_of, verb_of,
-};
+use debug_names::{Thing, Verb, begins, register_of, size_of_letter, thing_of, vector_of, verb_of};
 use debug_places::{Format, Place, Refusal, Why, format_of, plain_format, refuse};
 use elf_symbols::Symbol;
 use emu_bits::Esize;
@@ -150,23 +151,53 @@ fn disassemble_of(
     whole(words, 2, Command::Disassemble(Some(place)))
 }
 
-fn register_or_all(words: &[&str], register: Option<Register>) -> Result<Command, Refusal>
-    ensures { result ≡ register_or_all (map (λ word. word.now) words.now) register }
+/// A place, or else that of a word that names no scalar register.
+fn or_no_register(words: &[&str], place: usize, first: Option<usize>) -> Option<usize>
+    ensures { result ≡ or_no_register (map (λ word. word.now) words.now) place first }
 {
-    match register {
-        None => Err(refuse(Why::UnknownRegister, 2)),
-        Some(register) => whole(words, 3, Command::InfoRegisters(Some(register))),
+    match first {
+        Some(first) => Some(first),
+        None => {
+            if register_of(word_at(words, place)).is_none() {
+                Some(place)
+            } else {
+                None
+            }
+        }
+    }
+}
+
+/// The place of the first of so many words behind `info registers` that names no scalar register.
+#[tactic(auto, unfolding(crate::specs::Commands::first_no_register))]
+fn first_no_register(words: &[&str], count: usize) -> Option<usize>
+    requires { count + 1 < length words.now }
+    ensures { result ≡ first_no_register (map (λ word. word.now) words.now) count }
+{
+    let mut first = None;
+    'words: for k in 0..count {
+        first = or_no_register(words, k + 2, first);
+    }
+    first
+}
+
+/// So many registers, of which each is one.
+fn registers_among(words: &[&str], count: usize) -> Result<Command, Refusal>
+    requires { count + 1 < length words.now }
+    ensures { result ≡ registers_among (map (λ word. word.now) words.now) count }
+{
+    match first_no_register(words, count) {
+        Some(place) => Err(refuse(Why::UnknownRegister, place)),
+        None => Ok(Command::InfoRegisters(count)),
     }
 }
 
 fn registers_of(words: &[&str]) -> Result<Command, Refusal>
     ensures { result ≡ registers_of (map (λ word. word.now) words.now) }
 {
-    if has_word(words, 2) {
-        register_or_all(words, register_of(word_at(words, 2)))
-    } else {
-        Ok(Command::InfoRegisters(None))
+    if 2 < words.len() {
+        return registers_among(words, words.len() - 2);
     }
+    Ok(Command::InfoRegisters(0))
 }
 
 fn symbol_of(symbols: &[Symbol<'_>], rows: &[Row<'_>], words: &[&str]) -> Result<Command, Refusal>

@@ -1,10 +1,11 @@
--- What the text of a table of source lines says: its rows, or its first refusal. `table` is the whole of it. The form is
--- this project's own choice, as docs/DEBUGGING.md has it under "Lines of the source".
+-- What the text of a table of source lines says: its rows, or its first refusal. `table` is the whole of it. The form
+-- is this project's own choice, as docs/DEBUGGING.md has it under "Lines of the source".
 --
 -- A line without a byte and a comment are skipped. Each other line is a row, `ADDRESS FILE LINE` or `ADDRESS -`: the
 -- code from this address on, up to that of the next row, is of this line of this file, or of none that is known. Lines
 -- of files are counted from 1, and addresses don't fall from row to row.
-use Rattle.std.specs.Prelude.{ℕ, ◌+◌, ◌-◌, ◌^◌, Bool, false, ◌&&◌, ◌||◌, List, [], ◌∷◌, ◌++◌, length, map, codes, get_or, Option, Some, None, nat_eq, nat_le, nat_lt, Result, Ok, Err, if◌then◌else◌}
+use Rattle.std.specs.Prelude.{ℕ, ◌+◌, ◌-◌, ◌^◌, Bool, false, ◌&&◌, ◌||◌, List, [], ◌∷◌, ◌++◌, length, map, codes}
+use Rattle.std.specs.Prelude.{get_or, Option, Some, None, nat_eq, nat_le, nat_lt, Result, Ok, Err, if◌then◌else◌}
 use Rattle.std.specs.List.{ends_with, find}
 use Rattle.std.specs.Option.{option_map, option_map_or}
 use Rattle.std.specs.Str.{bytes_eq}
@@ -14,7 +15,8 @@ use Rattle.source_lines.specs.declared.rows.Row.{Row}
 use Rattle.source_lines.specs.declared.rows.SourcePlace.{SourcePlace}
 use Rattle.source_lines.specs.declared.rows.TableFault.{TableFault}
 use Rattle.source_lines.specs.declared.rows.TableWhy.{TableWhy}
-use Rattle.source_lines.specs.declared.rows.TableWhy.TheVariants.{TooManyLines, MissingWord, BadAddress, BadLine, ExtraWord, OutOfOrder}
+use Rattle.source_lines.specs.declared.rows.TableWhy.TheVariants.{TooManyLines, MissingWord, BadAddress, BadLine}
+use Rattle.source_lines.specs.declared.rows.TableWhy.TheVariants.{ExtraWord, OutOfOrder}
 
 -- a line of a file
 pub record SourceLine : Type 0 where

@@ -1,5 +1,6 @@
 -- The lines of a program's source as text.
-use Rattle.std.specs.Prelude.{ℕ, ◌+◌, ◌-◌, Bool, ◌&&◌, List, [], ◌∷◌, ◌++◌, codes, flat_map, Option, Some, None, nat_eq, nat_le, nat_lt, if◌then◌else◌}
+use Rattle.std.specs.Prelude.{ℕ, ◌+◌, ◌-◌, Bool, ◌&&◌, List, [], ◌∷◌, ◌++◌, codes, flat_map, Option, Some, None, nat_eq}
+use Rattle.std.specs.Prelude.{nat_le, nat_lt, if◌then◌else◌}
 use Rattle.std.specs.Fmt.{decimal}
 use Rattle.std.specs.List.{find}
 use Rattle.std.specs.Option.{option_map_or}
@@ -71,7 +72,8 @@ mark here number = if nat_eq here number then codes "=> " else codes "   "
 
 abbrev pub listed_text : ℕ → ℕ → NumberedLine → List ℕ
 listed_text first here line =
-    if is_listed first line.number then mark here line.number ++ decimal line.number ++ text_behind line.text.now else []
+    if is_listed first line.number
+    then mark here line.number ++ decimal line.number ++ text_behind line.text.now else []
 
 abbrev pub listing_in : ℕ → ℕ → List NumberedLine → List ℕ
 listing_in first here lines = flat_map (listed_text first here) lines

@@ -15,7 +15,7 @@ use thiserror::Error;
 const MOST_LINES: usize = 1_000_000;
 
 /// Why there is no table: it is refused, or memory is wanting.
-#[derive(Clone, Copy, Debug, PartialEq, Eq, Error)]
+#[derive(Clone, Copy, Debug, Error)]
 pub enum TableError {
     #[error("{0}")]
     Refused(TableFault),

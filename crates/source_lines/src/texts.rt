@@ -28,7 +28,7 @@ use std::alloc::{AllocError, Global};
 use std::fmt::Write;
 
 /// A line of a file of the source, and its number, counted from 1.
-#[derive(Clone, Copy, Debug)]
+#[derive(Clone, Copy)]
 pub struct NumberedLine<'a> {
     pub number: u64,
     pub text: &'a str,

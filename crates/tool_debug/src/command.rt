@@ -1,5 +1,6 @@
 //! The whole command.
-ghost use Rattle.std.specs.Prelude.{◌≡◌, ◌<◌, ◌≤◌, ◌++◌, ◌∷◌, [], false, is_some, length, map, string_bytes, IfOk, OnOk};
+ghost use Rattle.std.specs.Prelude.{◌≡◌, ◌<◌, ◌≤◌, false, true, is_some, length, map, string_bytes};
+ghost use Rattle.std.specs.Prelude.{IfErr, IfOk, OnErr};
 ghost use Rattle.std.specs.List.{count_by};
 ghost use Rattle.emu_model.specs.Access.{most_mapped_pages};
 ghost use Rattle.elf_image.specs.Images.{seen_image};
@@ -8,13 +9,15 @@ ghost use Rattle.emu_machine.specs.Machines.{has_ended};
 ghost use Rattle.emu_system.specs.ArgumentLimits.{AreArguments};
 ghost use Rattle.command_lines.specs.LineLimits.{HasArguments, HasLimit, HasPlaces};
 ghost use Rattle.command_lines.specs.Outcome.{program_arguments};
+ghost use Rattle.debug_options.specs.Endings.{is_refused};
+ghost use Rattle.tool_debug.specs.Endings.{EndsSo, is_session_end, may_end};
 
 use crate::talk::talk;
 use command_lines::{Ending, Line, line_of_words, word};
 use debug_moves::{Broken, Session};
 use debug_options::{
-    FILE_LIMIT, Given, miss_file, read_sources, refuse_image, refuse_long_file, refuse_table,
-    refuse_words, run_words, seen_sources,
+    FILE_LIMIT, Given, miss_file, read_sources, refuse_long_file, refuse_table, refuse_words,
+    run_words, seen_sources,
 };
 use debug_points::Points;
 use debug_walk::Trail;
@@ -24,7 +27,8 @@ use emu_machine::Machine;
 use emu_model::Length;
 use io_gate::{Images, ImagesError, Sink, SliceSource, Source};
 use source_lines::{Row, SourceFile, TableError, read_table};
-use std::alloc::{AllocError, Global};
+use std::alloc::Global;
+use tool_refusals::{arguments, refuse_image};
 
 /// How many steps a command goes at most.
 const SLICE: u64 = 100_000_000;
@@ -51,37 +55,10 @@ struct Ask<'rows, 'table, 'sources, 'texts, 'input, 'script> {
     prompted: bool,
 }
 
-/// The arguments of a program: the word that names its file, and the words from `args` on. Err is want of memory.
-fn arguments(
-    alloc: Global,
-    words: &[String],
-    file: usize,
-    args: usize,
-) -> Result<Vec<String>, AllocError>
-    requires file { file < length words.now }
-    requires args { args ≤ length words.now }
-    ensures { IfOk result (λ list.
-        map string_bytes list.items ≡ program_arguments (map string_bytes words.now) file args) }
-{
-    let mut list = Vec::new(alloc);
-    push_word(alloc, &mut list, word(words, file))?;
-    for place in args..words.len() {
-        push_word(alloc, &mut list, word(words, place))?;
-    }
-    Ok(list)
-}
-
-/// Appends a copy of a word. Err is want of memory.
-fn push_word(alloc: Global, list: &mut Vec<String>, text: &str) -> Result<(), AllocError>
-    ensures { OnOk result
-        (map string_bytes list.new.items ≡ map string_bytes list.old.items ++ text.now ∷ []) }
-{
-    list.push(String::from_str(alloc, text)?)?;
-    Ok(())
-}
-
 /// How a session that was broken off ends.
-fn ending_of(talked: Result<(), Broken>) -> Ending {
+fn ending_of(talked: Result<(), Broken>) -> Ending
+    ensures { is_session_end result ≡ true }
+{
     match talked {
         Ok(()) => Ending::Done,
         Err(Broken::OutOfMemory) => Ending::OutOfMemory,
@@ -107,6 +84,7 @@ fn debug_machine<F: Images, C: Source, O: Sink, E: Sink>(
     requires none { count_by is_some machine.old.marks ≡ 0 }
     requires steps { machine.old.parts.steps ≡ 0 }
     requires going { has_ended machine.old ≡ false }
+    ensures { is_session_end result ≡ true }
 {
     let mut trail = Trail::begin(machine);
     let talked = match script {
@@ -139,6 +117,7 @@ fn debug_image<F: Images, C: Source, O: Sink, E: Sink>(
     requires loadable { IsLoadable bytes.now program.now.pages (seen_image image.now) }
     requires arguments { AreArguments (map string_bytes args.now) }
     requires pages { program.now.pages ≤ most_mapped_pages }
+    ensures { is_session_end result ≡ true }
 {
     let Ok(symbols) = symbols(alloc, bytes) else {
         return Ending::OutOfMemory;
@@ -187,6 +166,7 @@ fn debug_bytes<F: Images, C: Source, O: Sink, E: Sink>(
     requires arguments { AreArguments (program_arguments
         (map string_bytes same.now) program.now.file program.now.args) }
     requires pages { program.now.pages ≤ most_mapped_pages }
+    ensures { EndsSo result (commands.new ≡ commands.old) (output.new ≡ output.old) }
 {
     match read(bytes, program.pages) {
         Err(fault) => refuse_image(alloc, word(same, program.file), bytes, fault, errors),
@@ -206,7 +186,9 @@ fn file_bytes<F: Images, E: Sink>(
     limit: u64,
     files: &mut F,
     errors: &mut E,
-) -> Result<Vec<u8>, Ending> {
+) -> Result<Vec<u8>, Ending>
+    ensures { IfErr result (λ ending. is_refused ending ≡ true) }
+{
     match files.read_whole(alloc, name, limit as usize) {
         Ok(bytes) => Ok(bytes),
         Err(ImagesError::Failed) | Err(ImagesError::Missing) => Err(miss_file(alloc, name, errors)),
@@ -223,7 +205,9 @@ fn bytes_at<F: Images, E: Sink>(
     limit: u64,
     files: &mut F,
     errors: &mut E,
-) -> Result<Vec<u8>, Ending> {
+) -> Result<Vec<u8>, Ending>
+    ensures { IfErr result (λ ending. is_refused ending ≡ true) }
+{
     match place {
         Some(place) if place < words.len() => file_bytes(
             alloc,
@@ -243,7 +227,9 @@ fn table_text<F: Images, E: Sink>(
     given: &Given,
     files: &mut F,
     errors: &mut E,
-) -> Result<String, Ending> {
+) -> Result<String, Ending>
+    ensures { IfErr result (λ ending. is_refused ending ≡ true) }
+{
     let bytes = bytes_at(alloc, words, given.lines, FILE_LIMIT, files, errors)?;
     match String::from_utf8_lossy(alloc, &bytes) {
         Ok(text) => Ok(text),
@@ -258,7 +244,9 @@ fn rows_of<'a, E: Sink>(
     given: &Given,
     text: &'a str,
     errors: &mut E,
-) -> Result<Vec<Row<'a>>, Ending> {
+) -> Result<Vec<Row<'a>>, Ending>
+    ensures { IfErr result (λ ending. is_refused ending ≡ true) }
+{
     let place = given.lines.unwrap_or(0);
     match read_table(alloc, text) {
         Ok(rows) => Ok(rows),
@@ -305,6 +293,7 @@ fn debug_read<F: Images, C: Source, O: Sink, E: Sink>(
     requires arguments { AreArguments (program_arguments
         (map string_bytes same.now) program.now.file program.now.args) }
     requires pages { program.now.pages ≤ most_mapped_pages }
+    ensures { EndsSo result (commands.new ≡ commands.old) (output.new ≡ output.old) }
 {
     let script = script_of(given, script);
     let asked = Ask {
@@ -337,6 +326,10 @@ fn debug_files<F: Images, C: Source, O: Sink, E: Sink>(
     requires arguments { AreArguments (program_arguments
         (map string_bytes same.now) program.now.file program.now.args) }
     requires pages { program.now.pages ≤ most_mapped_pages }
+    ensures ends { IfOk result (λ ending. EndsSo ending (commands.new ≡ commands.old) (output.new ≡ output.old)) }
+    ensures refused { IfErr result (λ ending. is_refused ending ≡ true) }
+    ensures untaken { OnErr result (commands.new ≡ commands.old) }
+    ensures unwritten { OnErr result (output.new ≡ output.old) }
 {
     let bytes = file_bytes(alloc, word(same, program.file), FILE_LIMIT, files, errors)?;
     let input = bytes_at(alloc, words, given.input, FILE_LIMIT, files, errors)?;
@@ -367,6 +360,7 @@ fn debug_line<F: Images, C: Source, O: Sink, E: Sink>(
     requires places { HasPlaces line.now (length same.now) }
     requires arguments { HasArguments (map string_bytes same.now) line.now }
     requires limit { HasLimit line.now }
+    ensures { EndsSo result (commands.new ≡ commands.old) (output.new ≡ output.old) }
 {
     match *line {
         Line::Run {
@@ -408,7 +402,11 @@ pub fn debug_program<F: Images, C: Source, O: Sink, E: Sink>(
     commands: &mut C,
     output: &mut O,
     errors: &mut E,
-) -> Ending {
+) -> Ending
+    ensures kind { may_end result ≡ true }
+    ensures untaken { is_session_end result ≡ false → commands.new ≡ commands.old }
+    ensures unwritten { is_session_end result ≡ false → output.new ≡ output.old }
+{
     let Ok((same, given)) = run_words(alloc, words) else {
         return Ending::OutOfMemory;
     };

@@ -3,10 +3,6 @@
 
 mod command;
 mod lines;
-mod listings;
-mod obey;
-mod reports;
-mod searches;
 mod talk;
 
 pub use command::debug_program;

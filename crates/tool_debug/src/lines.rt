@@ -43,10 +43,21 @@ fn next_bytes<I: Source>(alloc: Global, source: &mut I) -> Result<Option<Vec<u8>
     Ok(if some { Some(bytes) } else { None })
 }
 
-/// Takes the next line of a source, in which bytes that are no text are replaced. None where nothing is left.
+/// Drops a carriage return at the end of a line.
+fn drop_return(line: &mut Vec<u8>) {
+    if line.last() == Some(&b'\r') {
+        line.pop();
+    }
+}
+
+/// Takes the next line of a source, without the carriage return that may stand before its newline. Bytes that are no
+/// text are replaced. None where nothing is left.
 pub fn next_line<I: Source>(alloc: Global, source: &mut I) -> Result<Option<String>, Broken> {
     match next_bytes(alloc, source)? {
         None => Ok(None),
-        Some(bytes) => Ok(Some(String::from_utf8_lossy(alloc, &bytes)?)),
+        Some(mut bytes) => {
+            drop_return(&mut bytes);
+            Ok(Some(String::from_utf8_lossy(alloc, &bytes)?))
+        }
     }
 }

@@ -4,13 +4,13 @@ ghost use Rattle.dbg_back.specs.Walks.{CanWalk};
 ghost use Rattle.debug_walk.specs.Walks.{StaysOn};
 
 use crate::lines::next_line;
-use crate::obey::obey;
-use crate::reports::{put, put_where};
+use debug_commands::obey;
 use debug_moves::{Broken, Session};
 use debug_places::Refusal;
+use debug_reports::{put, put_where};
 use debug_shows::push_refusal;
 use debug_walk::Trail;
-use debug_words::{Command, command_of};
+use debug_words::{Command, command_of, cut_words};
 use emu_machine::Machine;
 use io_gate::{Images, ImagesError, Sink, SliceSource, Source};
 use std::alloc::{AllocError, Global};
@@ -19,7 +19,7 @@ use std::alloc::{AllocError, Global};
 const MOST_COMMANDS: usize = 16_777_216;
 
 /// What a session does behind a line.
-#[derive(Clone, Copy, Debug, PartialEq, Eq)]
+#[derive(Clone, Copy)]
 enum Then {
     /// The next line.
     Next,
@@ -28,13 +28,14 @@ enum Then {
     End,
 }
 
-/// The words of a line, without a comma at the end of one. Err is want of memory.
+/// The words of a line, without a comma at the end of one, those of a condition cut at its comparison. Err is want of
+/// memory.
 fn words_of(alloc: Global, line: &str) -> Result<Vec<&str>, AllocError> {
     let mut words = line_words::words(alloc, line)?;
     'words: for k in 0..words.len() {
         words[k] = words[k].strip_suffix(",").unwrap_or(words[k]);
     }
-    Ok(words)
+    cut_words(alloc, &words)
 }
 
 /// Puts why a line is no command.

@@ -1,13 +1,18 @@
 -- How a command of `svemu-tool` ends that reads a file and its input before anything is run, and writes one text: by a
 -- refusal, by a failure, or by coming to its end.
-use Rattle.std.specs.Prelude.{◌≡◌, ◌⊎◌, ℕ, Bool, true, false, ◌||◌, nat_eq, nat_lt, List, length, Option, Some, None, Result, Ok, Err, if◌then◌else◌}
+use Rattle.std.specs.Prelude.{◌≡◌, ◌⊎◌, ℕ, Bool, true, false, ◌||◌, nat_eq, nat_lt, List, length, Option, Some, None}
+use Rattle.std.specs.Prelude.{Result, Ok, Err, if◌then◌else◌}
 use Rattle.std.specs.Global.{Vec}
 use Rattle.io_gate.specs.declared.images.ImagesError.{ImagesError}
-use Rattle.io_gate.specs.declared.images.ImagesError.TheVariants.{Failed, Missing, TooLong as LongFile, OutOfMemory as NoMemory}
+use Rattle.io_gate.specs.declared.images.ImagesError.TheVariants.{Failed, Missing, TooLong as LongFile}
+use Rattle.io_gate.specs.declared.images.ImagesError.TheVariants.{OutOfMemory as NoMemory}
 use Rattle.command_model.specs.Sweep.{stream_limit}
 use Rattle.command_lines.specs.Outcome.{file_limit}
 use Rattle.command_lines.specs.declared.ending.Ending.{Ending}
-use Rattle.command_lines.specs.declared.ending.Ending.TheVariants.{Done, WordsRefused, ImageRefused, TooLong, FileFault, ReadFault, WriteFault, ErrorsFault}
+use Rattle.command_lines.specs.declared.ending.Ending.TheVariants.{Exit, Trap, Spent, Stuck, Done, WordsRefused}
+use Rattle.command_lines.specs.declared.ending.Ending.TheVariants.{ImageRefused, ListingRefused, ScriptRefused}
+use Rattle.command_lines.specs.declared.ending.Ending.TheVariants.{ScheduleRefused, TooLong, FileFault, ReadFault}
+use Rattle.command_lines.specs.declared.ending.Ending.TheVariants.{WriteFault, ErrorsFault, OutOfMemory}
 use Rattle.commands.specs.Promises.{is_failure, is_refusal}
 use Rattle.emu_system.specs.Image.{Image}
 use Rattle.emu_system.specs.declared.image.ElfFault.{ElfFault}
@@ -37,30 +42,65 @@ EndsFile (Err NoMemory) next ending = ⊥
 
 -- a refusal, a failure, or the command came to its end
 abbrev pub may_end : Ending → Bool
+may_end (Exit code) = false
+may_end (Trap trap pc) = false
+may_end Spent = false
+may_end Stuck = false
 may_end Done = true
-may_end (TooLong limit) = nat_eq limit stream_limit || nat_eq limit file_limit
 may_end (WordsRefused fault) = true
 may_end (ImageRefused fault) = true
-may_end ending = is_failure ending
+may_end (ListingRefused fault) = false
+may_end (ScriptRefused fault) = false
+may_end (ScheduleRefused fault) = false
+may_end (TooLong limit) = nat_eq limit stream_limit || nat_eq limit file_limit
+may_end FileFault = true
+may_end ReadFault = true
+may_end WriteFault = true
+may_end ErrorsFault = true
+may_end OutOfMemory = true
 
 -- something may have been put to the output
 abbrev pub is_written : Ending → Bool
+is_written (Exit code) = false
+is_written (Trap trap pc) = false
+is_written Spent = false
+is_written Stuck = false
 is_written Done = true
+is_written (WordsRefused fault) = false
+is_written (ImageRefused fault) = false
+is_written (ListingRefused fault) = false
+is_written (ScriptRefused fault) = false
+is_written (ScheduleRefused fault) = false
+is_written (TooLong limit) = false
+is_written FileFault = false
+is_written ReadFault = false
 is_written WriteFault = true
-is_written ending = false
+is_written ErrorsFault = false
+is_written OutOfMemory = false
 
 -- a line is put to the errors
 abbrev pub is_said : Ending → Bool
-is_said (TooLong limit) = true
+is_said (Exit code) = false
+is_said (Trap trap pc) = false
+is_said Spent = false
+is_said Stuck = false
+is_said Done = false
 is_said (WordsRefused fault) = true
 is_said (ImageRefused fault) = true
+is_said (ListingRefused fault) = false
+is_said (ScriptRefused fault) = false
+is_said (ScheduleRefused fault) = false
+is_said (TooLong limit) = true
 is_said FileFault = true
+is_said ReadFault = false
+is_said WriteFault = false
 is_said ErrorsFault = true
-is_said ending = false
+is_said OutOfMemory = false
 
 -- whether an ending may be, what is behind each fault, and what an ending leaves as it was: the input before a refusal,
 -- the output, the errors
-pub record Leaves (ending : Ending) (same_input same_output same_errors file_cause read_cause write_cause errors_cause : Type 0) : Type 0 where
+pub record Leaves (ending : Ending)
+    (same_input same_output same_errors file_cause read_cause write_cause errors_cause : Type 0) : Type 0 where
   pub kind : may_end ending ≡ true
   pub file : ending ≡ FileFault → file_cause
   pub read : ending ≡ ReadFault → read_cause

@@ -1,4 +1,4 @@
-//! The arguments of a program, as the words of a line give them.
+//! Copies of words, and the arguments of a program as the words of a line give them.
 ghost use Rattle.std.specs.Prelude.{◌≡◌, ◌<◌, ◌≤◌, [], ◌∷◌, ◌++◌, length, map, string_bytes, IfOk, OnOk};
 ghost use Rattle.command_lines.specs.Outcome.{program_arguments};
 
@@ -6,7 +6,7 @@ use command_lines::word;
 use std::alloc::{AllocError, Global};
 
 /// Appends a copy of a word. Err is want of memory.
-fn push_word(alloc: Global, list: &mut Vec<String>, text: &str) -> Result<(), AllocError>
+pub fn push_word(alloc: Global, list: &mut Vec<String>, text: &str) -> Result<(), AllocError>
     ensures { OnOk result (map string_bytes list.new.items ≡ map string_bytes list.old.items ++ text.now ∷ []) }
 {
     list.push(String::from_str(alloc, text)?)?;

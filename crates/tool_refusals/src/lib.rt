@@ -6,6 +6,6 @@ mod copies;
 mod reading;
 mod saying;
 
-pub use copies::arguments;
+pub use copies::{arguments, push_word};
 pub use reading::{file_bytes, input_bytes};
 pub use saying::{refuse_image, say, say_word};

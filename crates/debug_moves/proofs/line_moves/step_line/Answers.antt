@@ -14,5 +14,5 @@ rows-preserved g c = record {
   input = c.in_ok-reached.ensures.input ∙ c.rows.invariant.input;
 }
 
-pub returns-then-ne-clause-stays : goal.returns-then-ne-clause-stays
-returns-then-ne-clause-stays g c = stays_then c.rows.invariant.stays (stays_in c.rows.invariant.input c.in_ok-reached.ensures.stays)
+pub returns-then-is_stopped-clause-stays : goal.returns-then-is_stopped-clause-stays
+returns-then-is_stopped-clause-stays g c = stays_then c.rows.invariant.stays (stays_in c.rows.invariant.input c.in_ok-reached.ensures.stays)
