@@ -1,5 +1,5 @@
 -- Lanes of a predicate by the bits of its words.
-use Rattle.std.proofs.Common.{◌≡◌, ◌<◌, ◌≤◌, ◌+◌, ◌-◌, ◌*◌, ◌/◌, ◌%◌, ◌^◌, ℕ, max, min, bit_and, bit_or, w64, Bool, true, false, nat_eq, if◌then◌else◌, List, get_or, inl, inr, refl, sym, ap, ◌∙◌, arith}
+use Rattle.std.proofs.Common.{◌≡◌, ◌<◌, ◌≤◌, ◌+◌, ◌-◌, ◌*◌, ◌/◌, ◌%◌, ◌^◌, ℕ, zero, suc, max, min, bit_and, bit_or, w64, Bool, true, false, nat_eq, if◌then◌else◌, List, get_or, inl, inr, refl, sym, ap, ◌∙◌, arith}
 use Rattle.std.specs.Int.{bit_at, trailing_ones, trailing_zeros, bit_not}
 use Rattle.std.proofs.lemmas.Bool.{cases_lt}
 use Rattle.std.proofs.lemmas.Bool.Decides.{eqb_tells}
@@ -244,3 +244,78 @@ more_on on k d before here i h = elim (cases_lt i k) [
   | inl b ↦ before i b
   | inr b ↦ here i b h
 ]
+
+-- ---- lanes whose bits are whole words of a predicate
+
+pub whole_word_lanes : (e bits i : ℕ) → IsLaneSize e → i < bits / 512 → i * (64 / (e / 8)) + 64 / (e / 8) ≤ bits / e
+whole_word_lanes e bits i (inl s) = rw s (λ h. omega arith)
+whole_word_lanes e bits i (inr (inl s)) = rw s (λ h. omega arith)
+whole_word_lanes e bits i (inr (inr (inl s))) = rw s (λ h. omega arith)
+whole_word_lanes e bits i (inr (inr (inr s))) = rw s (λ h. omega arith)
+
+pub word_end : (e i : ℕ) → IsLaneSize e → seen_end e (i * (64 / (e / 8))) ≡ i * (64 / (e / 8)) + 64 / (e / 8)
+word_end e i (inl s) = rw s (omega arith)
+word_end e i (inr (inl s)) = rw s (omega arith)
+word_end e i (inr (inr (inl s))) = rw s (omega arith)
+word_end e i (inr (inr (inr s))) = rw s (omega arith)
+
+pub whole_words_fit : (e bits : ℕ) → IsLaneSize e → bits / 512 * (64 / (e / 8)) ≤ bits / e
+whole_words_fit e bits (inl s) = rw s (omega arith)
+whole_words_fit e bits (inr (inl s)) = rw s (omega arith)
+whole_words_fit e bits (inr (inr (inl s))) = rw s (omega arith)
+whole_words_fit e bits (inr (inr (inr s))) = rw s (omega arith)
+
+pub last_word_lanes : (e bits : ℕ) → IsLaneSize e → bits / e ≤ bits / 512 * (64 / (e / 8)) + 64 / (e / 8)
+last_word_lanes e bits (inl s) = rw s (omega arith)
+last_word_lanes e bits (inr (inl s)) = rw s (omega arith)
+last_word_lanes e bits (inr (inr (inl s))) = rw s (omega arith)
+last_word_lanes e bits (inr (inr (inr s))) = rw s (omega arith)
+
+pub in_next_word : (e i k : ℕ) → IsLaneSize e → k < (i + 1) * (64 / (e / 8)) → k < i * (64 / (e / 8)) + 64 / (e / 8)
+in_next_word e i k (inl s) = rw s (λ h. omega arith)
+in_next_word e i k (inr (inl s)) = rw s (λ h. omega arith)
+in_next_word e i k (inr (inr (inl s))) = rw s (λ h. omega arith)
+in_next_word e i k (inr (inr (inr s))) = rw s (λ h. omega arith)
+
+-- ---- all lanes at once
+
+both_of_two : (a b : ℕ) → a < 2 → b < 2 → min a b ≡ 1 → (a ≡ 1) × (b ≡ 1)
+both_of_two a b first second h = (omega (arith, first, second, h), omega (arith, first, second, h))
+
+both_set : (x y i : ℕ) → bit_at (bit_and x y) i ≡ 1 → (x / 2 ^ i % 2 ≡ 1) × (y / 2 ^ i % 2 ≡ 1)
+both_set x y i h = both_of_two (x / 2 ^ i % 2) (y / 2 ^ i % 2) (omega arith) (omega arith) (sym (bit_at_and x y i) ∙ h)
+
+four : (P : ℕ → Type 0) → P 0 → P 1 → P 2 → P 3 → (t : ℕ) → t < 4 → P t
+four P a b c d zero h = a
+four P a b c d (suc zero) h = b
+four P a b c d (suc (suc zero)) h = c
+four P a b c d (suc (suc (suc zero))) h = d
+four P a b c d (suc (suc (suc (suc n)))) h = absurd (omega arith)
+
+seen_in_word : (e k : ℕ) → IsLaneSize e → k * (e / 8) % 64 % (e / 8) ≡ 0
+seen_in_word e k (inl s) = rw s (omega arith)
+seen_in_word e k (inr (inl s)) = rw s (omega arith)
+seen_in_word e k (inr (inr (inl s))) = rw s (omega arith)
+seen_in_word e k (inr (inr (inr s))) = rw s (omega arith)
+
+-- a lane, where each of four words has all bits that lanes look at
+pub all_seen : (words : List ℕ) (p : List Bool) (between e bits k : ℕ) → IsLaneSize e → bits ≤ 2048 → p ≡ bits_of (bits / 8) words → ((b : ℕ) → b < 64 → between / 2 ^ b % 2 ≡ unseen_bit (e / 8) b)
+    → bit_or (bit_and (bit_and (bit_and (get_or words 0 0) (get_or words 1 0)) (get_or words 2 0)) (get_or words 3 0)) between ≡ 2 ^ 64 - 1 → k < bits / e → active e p k ≡ true
+all_seen words p between e bits k size most is unseen full h =
+    let n : ℕ = bits / 8 in
+    let j : ℕ = k * (e / 8) in
+    let i : ℕ = k * (e / 8) % 64 in
+    let within : k * (e / 8) < bits / 8 = lane_place e bits k size h in
+    let small : k * (e / 8) % 64 < 64 = omega arith in
+    let word : k * (e / 8) / 64 < 4 = omega (arith, within, most) in
+    let none : between / 2 ^ i % 2 ≡ 0 = unseen i small ∙ ap (λ r. if nat_eq r 0 then 0 else 1) (seen_in_word e k size) in
+    let abc : ℕ = bit_and (bit_and (get_or words 0 0) (get_or words 1 0)) (get_or words 2 0) in
+    let ab : ℕ = bit_and (get_or words 0 0) (get_or words 1 0) in
+    let all : bit_at (bit_or (bit_and abc (get_or words 3 0)) between) i ≡ 1 = ap (λ x. bit_at x i) full ∙ bit_at_ones 64 i small in
+    let last = both_set abc (get_or words 3 0) i (first_is_set (bit_and abc (get_or words 3 0)) between i none all) in
+    let third = both_set ab (get_or words 2 0) i last.0 in
+    let pair = both_set (get_or words 0 0) (get_or words 1 0) i third.0 in
+    let set : get_or words (j / 64) 0 / 2 ^ i % 2 ≡ 1 = four (λ q. get_or words q 0 / 2 ^ i % 2 ≡ 1) pair.0 pair.1 third.1 last.1 (j / 64) word in
+    ap (λ (p : List Bool). get_or p j false) is
+    ∙ get_or-each n (bit_of words) j false within
+    ∙ ap (λ x. nat_eq x 1) set

@@ -1,5 +1,5 @@
 //! The bits of a predicate that stand for a word of 64 bits.
-ghost use Rattle.std.specs.Prelude.{◌≡◌, ◌≤◌, ◌<◌, ◌+◌, ◌*◌, ◌/◌, ◌%◌, ◌^◌, ℕ, true, false};
+ghost use Rattle.std.specs.Prelude.{◌≡◌, ◌≢◌, ◌≤◌, ◌<◌, ◌+◌, ◌*◌, ◌/◌, ◌%◌, ◌^◌, ℕ, true, false};
 ghost use Rattle.emu_model.specs.LaneSizes.{IsLaneSize};
 ghost use Rattle.sve_effects.specs.LaneLoop.{is_active};
 ghost use Rattle.active_lanes.specs.Kept.{keeps};
@@ -61,6 +61,7 @@ pub(crate) fn is_whole(e: u32, field: u64) -> bool
 }
 
 /// The bits of a predicate, of 64, that no lane looks at: those behind the lowest of each field.
+#[inline(always)]
 fn bits_between(e: u32) -> u64
     requires { IsLaneSize e }
     ensures { (b : ℕ) → b < 64 → result / 2 ^ b % 2 ≡ unseen_bit (e / 8) b }
@@ -95,6 +96,7 @@ fn zeros(bits: u64) -> u32
 
 /// How many lanes from lane k on are active: all of at most so many whose bits stand in the same 64 bits of the
 /// predicate as that of lane k, or those before the first that isn't.
+#[inline(always)]
 pub fn active_from(vec: &VecRegs, pg: Pred, e: u32, k: u32, most: u32) -> u32
     requires size { IsLaneSize e }
     requires lane { k < vec.now.bits / e }
@@ -133,6 +135,56 @@ pub fn idle_from(vec: &VecRegs, pg: Pred, e: u32, k: u32, most: u32) -> u32
     lanes_of_bytes(e, bytes).min(most)
 }
 
+/// How many lanes from the first on are active, 64 bits of the predicate at a time. The size is a constant where it is
+/// called.
+#[inline(always)]
+fn front_of_size(vec: &VecRegs, pg: Pred, e: u32) -> u32
+    requires { IsLaneSize e }
+    ensures on { (k : ℕ) → k < result → is_active e vec.now pg k ≡ true }
+    ensures few { result ≤ vec.now.bits / e }
+    ensures off { result < vec.now.bits / e → is_active e vec.now pg result ≡ false }
+{
+    let most = lanes_of_bytes(e, 64);
+    let whole = vec.length().bits() / 512;
+    for i in 0..whole {
+        let d = active_from(vec, pg, e, i * most, most);
+        if d < most {
+            return i * most + d;
+        }
+    }
+    let lanes = vec.length().bits() / e;
+    let k = whole * most;
+    if k == lanes {
+        return k;
+    }
+    k + active_from(vec, pg, e, k, lanes - k)
+}
+
+/// Whether all lanes of a register of 2048 bits are active, by one look at the four words of the predicate. Of a
+/// shorter register it says no.
+#[inline(always)]
+pub fn is_full(vec: &VecRegs, pg: Pred, e: u32) -> bool
+    requires { IsLaneSize e }
+    ensures { result ≡ true → (k : ℕ) → k < vec.now.bits / e → is_active e vec.now pg k ≡ true }
+{
+    let _length = vec.length();
+    let words = vec.p_words(pg);
+    let all = words[0] & words[1] & words[2] & words[3];
+    (all | bits_between(e)) == u64::MAX
+}
+
+/// The size of lanes that have more than 32 bits, as a constant.
+#[inline(always)]
+pub fn largest(e: u32) -> u32
+    requires size { IsLaneSize e }
+    requires not_bytes { e ≢ 8 }
+    requires not_halfwords { e ≢ 16 }
+    requires not_words { e ≢ 32 }
+    ensures { result ≡ e }
+{
+    64
+}
+
 /// How many lanes from the first on are active: all lanes, or those before the first that isn't.
 pub fn front_lanes(vec: &VecRegs, pg: Pred, e: u32) -> u32
     requires { IsLaneSize e }
@@ -140,15 +192,10 @@ pub fn front_lanes(vec: &VecRegs, pg: Pred, e: u32) -> u32
     ensures few { result ≤ vec.now.bits / e }
     ensures off { result < vec.now.bits / e → is_active e vec.now pg result ≡ false }
 {
-    let lanes = vec.length().bits() / e;
-    let most = lanes_of_bytes(e, 64);
-    let mut k = 0;
-    while k < lanes {
-        let d = active_from(vec, pg, e, k, lanes - k);
-        k += d;
-        if d < most {
-            return k;
-        }
+    match e {
+        8 => front_of_size(vec, pg, 8),
+        16 => front_of_size(vec, pg, 16),
+        32 => front_of_size(vec, pg, 32),
+        _ => front_of_size(vec, pg, largest(e)),
     }
-    k
 }

@@ -10,6 +10,6 @@ mod parts;
 mod whole;
 
 pub use element_words::put_words;
-pub use fields::{active_from, front_lanes, idle_from, words_of_lanes};
+pub use fields::{active_from, front_lanes, idle_from, is_full, largest, words_of_lanes};
 pub use kept_words::keep_active;
 pub use parts::{set_copied, set_words};

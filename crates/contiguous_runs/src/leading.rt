@@ -1,14 +1,15 @@
 //! The active lanes of a register where they come before all others.
-ghost use Rattle.std.specs.Prelude.{◌≡◌, ◌≢◌, ◌≤◌, ◌<◌, ◌/◌, ℕ, None, IfSome, true, false};
+ghost use Rattle.std.specs.Prelude.{◌≡◌, ◌≤◌, ◌<◌, ◌/◌, ℕ, None, IfSome, true, false};
 ghost use Rattle.emu_model.specs.LaneSizes.{IsLaneSize};
 ghost use Rattle.sve_effects.specs.LaneLoop.{is_active};
 ghost use Rattle.contiguous_runs.specs.Leading.{AreLeading, HasActive, HasGap};
 
-use active_lanes::{active_from, front_lanes, idle_from};
+use active_lanes::{active_from, front_lanes, idle_from, is_full, largest};
 use emu_bits::Pred;
 use vec_regs::VecRegs;
 
-/// How many lanes from the first on are active. Up to 512 bits one look at the predicate tells it.
+/// How many lanes from the first on are active. Up to 512 bits one look at the predicate tells it, and at 2048 bits
+/// where all are.
 #[inline(always)]
 fn front(vec: &VecRegs, pg: Pred, e: u32) -> u32
     requires { IsLaneSize e }
@@ -19,6 +20,8 @@ fn front(vec: &VecRegs, pg: Pred, e: u32) -> u32
     let bits = vec.length().bits();
     if bits <= 512 {
         active_from(vec, pg, e, 0, bits / e)
+    } else if is_full(vec, pg, e) {
+        bits / e
     } else {
         front_lanes(vec, pg, e)
     }
@@ -52,9 +55,14 @@ fn is_rest_idle(vec: &VecRegs, pg: Pred, e: u32, k: u32) -> bool
     ensures idle { result ≡ true → (i : ℕ) → k ≤ i → i < vec.now.bits / e → is_active e vec.now pg i ≡ false }
     ensures not { result ≡ false → HasActive k e pg vec.now }
 {
-    let lanes = vec.length().bits() / e;
+    let bits = vec.length().bits();
+    let lanes = bits / e;
     let next = k + idle_from(vec, pg, e, k, lanes - k);
     if next < lanes {
+        // up to 512 bits all lanes were seen, so that the next one is active
+        if bits <= 512 {
+            return false;
+        }
         return are_idle(vec, pg, e, next);
     }
     true
@@ -74,18 +82,6 @@ fn leading(vec: &VecRegs, pg: Pred, e: u32) -> Option<u32>
         return None;
     }
     Some(n)
-}
-
-/// The size of lanes that have more than 32 bits, as a constant.
-#[inline(always)]
-fn largest(e: u32) -> u32
-    requires size { IsLaneSize e }
-    requires not_bytes { e ≢ 8 }
-    requires not_halfwords { e ≢ 16 }
-    requires not_words { e ≢ 32 }
-    ensures { result ≡ e }
-{
-    64
 }
 
 /// How many lanes are active, where these come before all others. None where an active lane is behind one that isn't.

@@ -61,25 +61,48 @@ fn word_from(bytes: &[u8], place: usize) -> u64
     }
 }
 
-/// Writes all bytes of a register.
+/// Writes all bytes of a register of so many times 128 bits. Their number is a constant where it is called.
 #[inline(always)]
-fn set_whole(vec: &mut VecRegs, zd: Reg, bytes: &[u8])
-    requires { vec.old.bits / 8 ≤ length bytes.now }
+fn set_parts(vec: &mut VecRegs, zd: Reg, bytes: &[u8], parts: u32)
+    requires parts { parts ≡ vec.old.bits / 128 }
+    requires room { vec.old.bits / 8 ≤ length bytes.now }
     ensures { vec.new ≡ with_z vec.old zd (each (vec.old.bits / 8) (λ j. get_or bytes.now j 0)) }
 {
-    let parts = vec.length().bits() / 128;
+    let _length = vec.length();
     let _words = vec.z_words(zd);
-    // 128 bits take no loop
-    if parts == 1 {
-        let low = whole_word(bytes, 0);
-        let high = whole_word(bytes, 8);
-        vec.set_z_pair(zd, 0, [low, high]);
-        return;
-    }
     for i in 0..parts {
         let low = whole_word(bytes, 16 * i as usize);
         let high = whole_word(bytes, 16 * i as usize + 8);
         vec.set_z_pair(zd, i, [low, high]);
+    }
+}
+
+/// Writes all bytes of a register. It isn't inlined, so that no loop is where a register of 128 bits is written.
+#[inline(never)]
+fn set_long(vec: &mut VecRegs, zd: Reg, bytes: &[u8])
+    requires { vec.old.bits / 8 ≤ length bytes.now }
+    ensures { vec.new ≡ with_z vec.old zd (each (vec.old.bits / 8) (λ j. get_or bytes.now j 0)) }
+{
+    let parts = vec.length().bits() / 128;
+    if parts == 16 {
+        set_parts(vec, zd, bytes, 16);
+    } else {
+        set_parts(vec, zd, bytes, parts);
+    }
+}
+
+/// Writes all bytes of a register of so many bytes, at once where they are 16.
+#[inline(always)]
+fn set_whole(vec: &mut VecRegs, zd: Reg, bytes: &[u8], count: u32)
+    requires count { count ≡ vec.old.bits / 8 }
+    requires room { vec.old.bits / 8 ≤ length bytes.now }
+    ensures { vec.new ≡ with_z vec.old zd (each (vec.old.bits / 8) (λ j. get_or bytes.now j 0)) }
+{
+    let _length = vec.length();
+    if count == 16 {
+        set_parts(vec, zd, bytes, 1);
+    } else {
+        set_long(vec, zd, bytes);
     }
 }
 
@@ -90,21 +113,29 @@ fn set_some(vec: &mut VecRegs, zd: Reg, bytes: &[u8])
 {
     let _length = vec.length();
     let _words = vec.z_words(zd);
-    for i in 0..vec.length().bits() / 128 {
-        let low = word_from(bytes, 16 * i as usize);
-        let high = word_from(bytes, 16 * i as usize + 8);
+    let parts = vec.length().bits() / 128;
+    let whole = (bytes.len() / 16).min(parts as usize) as u32;
+    for i in 0..whole {
+        let low = whole_word(bytes, 16 * i as usize);
+        let high = whole_word(bytes, 16 * i as usize + 8);
         vec.set_z_pair(zd, i, [low, high]);
+    }
+    for k in whole..parts {
+        let low = word_from(bytes, 16 * k as usize);
+        let high = word_from(bytes, 16 * k as usize + 8);
+        vec.set_z_pair(zd, k, [low, high]);
     }
 }
 
-/// Writes the first bytes of a register, at most VL / 8, and zeros behind them.
+/// Writes the first bytes of a register of so many bytes, and zeros behind them.
 #[inline(always)]
-pub(crate) fn set_bytes(vec: &mut VecRegs, zd: Reg, bytes: &[u8])
+pub(crate) fn set_bytes(vec: &mut VecRegs, zd: Reg, bytes: &[u8], count: u32, whole: u32)
+    requires count { length bytes.now ≡ count }
+    requires whole { whole ≡ vec.old.bits / 8 }
     ensures { vec.new ≡ with_z vec.old zd (each (vec.old.bits / 8) (λ j. get_or bytes.now j 0)) }
 {
-    let count = vec.length().bits() / 8;
-    if bytes.len() == count as usize {
-        set_whole(vec, zd, bytes);
+    if count == whole {
+        set_whole(vec, zd, bytes, count);
     } else {
         set_some(vec, zd, bytes);
     }
@@ -138,7 +169,7 @@ fn put_word(bytes: &mut [u8], i: usize, word: u64)
 
 /// Puts the first 16 bytes of a register.
 #[inline(always)]
-fn put_pair(vec: &VecRegs, r: Reg, bytes: &mut [u8])
+pub(crate) fn put_pair(vec: &VecRegs, r: Reg, bytes: &mut [u8])
     requires { length bytes.old ≡ 16 }
     ensures same { (j : ℕ) → j < length bytes.old → get_or bytes.new j 0 ≡ get_or (read_z vec.now r) j 0 }
     ensures long { length bytes.new ≡ length bytes.old }
@@ -149,22 +180,38 @@ fn put_pair(vec: &VecRegs, r: Reg, bytes: &mut [u8])
     put_word(bytes, 1, words[1]);
 }
 
-/// Puts the first bytes of a register, as many as there are places. A register of 128 bits takes no call.
+/// Puts the bytes of a register of 2048 bits.
 #[inline(always)]
-pub(crate) fn put_bytes(vec: &VecRegs, r: Reg, bytes: &mut [u8])
+fn put_full(vec: &VecRegs, r: Reg, bytes: &mut [u8])
+    requires whole { length bytes.old ≡ 256 }
+    requires room { length bytes.old ≤ vec.now.bits / 8 }
+    ensures same { (j : ℕ) → j < length bytes.old → get_or bytes.new j 0 ≡ get_or (read_z vec.now r) j 0 }
+    ensures long { length bytes.new ≡ length bytes.old }
+{
+    let words = vec.z_words(r);
+    // a constant number of words
+    for i in 0..32 {
+        put_word(bytes, i, words[i]);
+    }
+}
+
+/// Puts the first bytes of a register, as many as there are places. It isn't inlined, so that no loop is where a
+/// register of 128 bits is put.
+#[inline(never)]
+pub(crate) fn put_long(vec: &VecRegs, r: Reg, bytes: &mut [u8])
     requires { length bytes.old ≤ vec.now.bits / 8 }
     ensures same { (j : ℕ) → j < length bytes.old → get_or bytes.new j 0 ≡ get_or (read_z vec.now r) j 0 }
     ensures long { length bytes.new ≡ length bytes.old }
 {
-    if bytes.len() == 16 {
-        put_pair(vec, r, bytes);
+    if bytes.len() == 256 {
+        put_full(vec, r, bytes);
     } else {
         put_some(vec, r, bytes);
     }
 }
 
-/// Puts the first bytes of a register, as many as there are places.
-#[inline(never)]
+/// Puts the first bytes of a register, word by word.
+#[inline(always)]
 fn put_some(vec: &VecRegs, r: Reg, bytes: &mut [u8])
     requires { length bytes.old ≤ vec.now.bits / 8 }
     ensures same { (j : ℕ) → j < length bytes.old → get_or bytes.new j 0 ≡ get_or (read_z vec.now r) j 0 }

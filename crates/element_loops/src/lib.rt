@@ -20,6 +20,8 @@ mod storing;
 mod values;
 
 pub use access::{load, load_each, store, store_each, tests_sp};
+pub use border::{joined, put_over};
 pub use listing::elements;
 pub use plan::{OnLanes, Places, Plan, Target};
 pub use run::load_run;
+pub use run_store::put_register;

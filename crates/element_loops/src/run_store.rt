@@ -21,8 +21,8 @@ use emu_model::PAGE_SIZE;
 use guest_mem::{AccessLog, Mem};
 use vec_regs::VecRegs;
 
-/// Puts the bytes of a register into a buffer.
-fn put_register(vec: &VecRegs, r: Reg, bytes: &mut [u8])
+/// Puts the bytes of a register into a buffer, which has 256 places.
+pub fn put_register(vec: &VecRegs, r: Reg, bytes: &mut [u8])
     requires { length bytes.old ≡ 256 }
     ensures bytes { (j : ℕ) → j < vec.now.bits / 8 → get_or bytes.new j 0 ≡ get_or (read_z vec.now r) j 0 }
     ensures count { length bytes.new ≡ 256 }

@@ -275,6 +275,19 @@ impl Pages {
         self.list.is_written(page)
     }
 
+    /// Whether a page is at hand to be read, as a page that was read lately mostly is. It may be read then.
+    #[inline(always)]
+    pub fn is_at_hand_to_read(&self, page: u64) -> bool
+        ensures { IsTrue result → page_gives (map.get self.now.memory.pages page) Kind.Read ≡ true }
+    {
+        if self.list.is_read(page) {
+            // for its clause
+            let _bytes = self.list.read(page);
+            return true;
+        }
+        false
+    }
+
     /// Whether a page may be written.
     #[inline(always)]
     pub fn may_write(&self, page: u64) -> bool

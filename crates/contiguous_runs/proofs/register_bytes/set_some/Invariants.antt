@@ -7,3 +7,9 @@ invariant-loop-i l = record {
   bits : l.vec.bits ≡ l.fn.vec.bits;
   written : l.vec ≡ parts (λ j. get_or l.bytes j 0) l.i l.zd l.fn.vec;
 }
+
+abbrev pub invariant-loop-k : goal.invariant-loop-k
+invariant-loop-k l = record {
+  bits : l.vec.bits ≡ l.fn.vec.bits;
+  written : l.vec ≡ parts (λ j. get_or l.bytes j 0) l.k l.zd l.fn.vec;
+}

@@ -42,3 +42,14 @@ returns-clause-written c = λ is.
     ∙ ap (λ (xs : List ℕ). with_bytes c.put_bytes-2.new.mem.memory b xs) piece
     ∙ ap (λ (m : Memory). with_bytes m b (drop f bs)) first
     ∙ written_parts bs c.args.mem.now.memory c.args.at f b (omega (arith, c.if-bytes-first.false)) (omega arith)
+
+pub returns-then-bytes-first-clause-sure : goal.returns-then-bytes-first-clause-sure
+returns-then-bytes-first-clause-sure c = λ over a b. absurd (omega (arith, over, c.if-bytes-first.true))
+
+pub returns-then-not-put_bytes-clause-sure : goal.returns-then-not-put_bytes-clause-sure
+returns-then-not-put_bytes-clause-sure c = λ over a b.
+    let f : ℕ = page_size - c.args.at % page_size in
+    let long : length (take (page_size - c.args.at % page_size) c.args.bytes.now) ≡ page_size - c.args.at % page_size = omega (arith, length-take (page_size - c.args.at % page_size) c.args.bytes.now, c.if-bytes-first.false) in
+    let some : 0 < length (take (page_size - c.args.at % page_size) c.args.bytes.now) = omega (arith, long) in
+    let fits : c.args.at % page_size + length (take (page_size - c.args.at % page_size) c.args.bytes.now) ≤ page_size = omega (arith, long) in
+    c.if-not-put_bytes.ensures.sure some (none_refused_within c.args.mem.now.memory c.args.at (length (take f c.args.bytes.now)) c.ranges.at.fits fits Write a)

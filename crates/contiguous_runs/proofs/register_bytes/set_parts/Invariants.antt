@@ -1,6 +1,6 @@
 use Rattle.std.proofs.Common.{◌≡◌, get_or}
 use Rattle.active_lanes.proofs.InParts.{parts}
-use Rattle.contiguous_runs.proofs.register_bytes.set_whole.Given as goal
+use Rattle.contiguous_runs.proofs.register_bytes.set_parts.Given as goal
 
 abbrev pub invariant-loop-i : goal.invariant-loop-i
 invariant-loop-i l = record {
