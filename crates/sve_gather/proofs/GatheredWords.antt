@@ -1,5 +1,5 @@
 -- The words of a register that is gathered.
-use Rattle.std.proofs.Common.{◌≡◌, ◌≤◌, ◌<◌, ◌⊎◌, ℕ, ◌+◌, ◌*◌, ◌/◌, ◌%◌, ◌^◌, List, get_or, set, length, replicate, take, drop, inl, inr, refl, sym, ap, subst, ◌∙◌, arith}
+use Rattle.std.proofs.Common.{◌≡◌, ◌≤◌, ◌<◌, ◌⊎◌, ℕ, ◌+◌, ◌*◌, ◌/◌, ◌%◌, ◌^◌, List, [], ◌∷◌, get_or, set, length, replicate, take, drop, inl, inr, refl, sym, ap, subst, ◌∙◌, arith, lit<}
 use Rattle.std.proofs.Math.Nat.{mod-eq_of_lt}
 use Rattle.std.proofs.lemmas.List.{length-set, get_or-take, get_or-drop, length-take, length-drop}
 use Rattle.std.proofs.lemmas.List.FromFn.{fill_by_all}
@@ -8,12 +8,13 @@ use Rattle.emu_model.specs.ListLaws.{length-each, get_or-each}
 use Rattle.emu_model.specs.Access.{Memory}
 use Rattle.emu_model.specs.SoundState.{IsVectorLength}
 use Rattle.emu_model.specs.State.{Vectors}
-use Rattle.emu_model.specs.Lanes.{with_z, with_lanes}
+use Rattle.emu_model.specs.Lanes.{read_z, with_z, with_lanes}
 use Rattle.emu_model.specs.LaneSizes.{IsLaneSize}
-use Rattle.vec_regs.specs.Words.{bytes_of}
+use Rattle.vec_regs.specs.Words.{byte_of, bytes_of, byte_with_pair}
 use Rattle.vec_regs.proofs.PackedLanes.{filled, still, with_packed, lanes_given, words_count}
 use Rattle.vec_regs.specs.Packed.{packed, word_of}
 use Rattle.vec_regs.proofs.Views.{zero_word}
+use Rattle.active_lanes.proofs.InParts.{no_parts, one_part_more, all_parts, pair_bytes, word_bytes}
 use Rattle.sve_effects.specs.VectorElements.{Layout}
 use Rattle.sve_effects.specs.VectorLoadStore.{loaded_lane, with_loaded}
 use Rattle.element_loops.specs.declared.plan.Plan.{Plan}
@@ -90,6 +91,24 @@ words_loaded p v m words zd next gather long h at is =
     ∙ taken_is_loaded p.is_signed l m 1 v
     ∙ ap (λ n. with_loaded p.is_signed l m n v) (sym gather.one)
     ∙ ap (λ (t : Target). loaded_by t p.is_signed l m v) (sym gather.target)
+
+-- the same of a register of two words
+pub pair_loaded : (p : Plan) (v : Vectors) (m : Memory) (low high zd : ℕ) (z : List ℕ) (next : Vectors) → IsGather p → IsVectorLength v.bits → v.bits ≡ 128 → read_z v zd ≡ bytes_of (v.bits / 8) z
+    → low ≡ word_of_lanes p.bits (lane_value p v m) 0 → high ≡ word_of_lanes p.bits (lane_value p v m) 1 → zd ≡ (p.register + 0) % 32
+    → next ≡ with_z v zd (each (v.bits / 8) (byte_with_pair (read_z v zd) 0 (low ∷ (high ∷ [])))) → next ≡ loaded_by p.target p.is_signed (layout_of p v) m v
+pair_loaded p v m low high zd z next gather long short is first second at written =
+    let words : List ℕ = set (set (replicate 32 0) 0 low) 1 high in
+    let g : ℕ → ℕ = byte_of 8 words in
+    let two : 2 ≡ v.bits / 64 = omega (arith, short) in
+    let one : AreWords p v m 1 (set (replicate 32 0) 0 low) = more_words p v m 0 low (replicate 32 0) (lit< tt) first (no_words p v m) in
+    let given : AreWords p v m 2 words = more_words p v m 1 high (set (replicate 32 0) 0 low) (lit< tt) second one in
+    let all : AreWords p v m (v.bits / 64) words = subst (λ n. AreWords p v m n words) two given in
+    let is_pair : next ≡ with_z v zd (bytes_of (v.bits / 8) words)
+    = written
+    ∙ ap (λ (w : Vectors). with_z w zd (each (w.bits / 8) (byte_with_pair (read_z w zd) 0 (low ∷ (high ∷ []))))) (no_parts v zd z is g)
+    ∙ one_part_more v zd z is long g 0 (low ∷ (high ∷ [])) (pair_bytes low high 0 g (λ t b. word_bytes words 0 t b) (λ t b. word_bytes words 1 t b))
+    ∙ all_parts v zd g 1 long (omega (arith, short)) in
+    words_loaded p v m words zd next gather long all at is_pair
 
 -- ---- how many lanes
 

@@ -4,4 +4,5 @@ pub mod GatheredWords
 pub mod Ffr
 pub mod GatheredElements
 pub mod Plain
+pub mod PageElements
 pub mod InGroup

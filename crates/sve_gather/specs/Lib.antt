@@ -3,3 +3,4 @@ pub mod PlanLaws
 pub mod Indexing
 pub mod Gathers
 pub mod FirstFaultPlan
+pub mod InPage

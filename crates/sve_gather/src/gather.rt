@@ -33,6 +33,7 @@ ghost use Rattle.sve_gather.specs.Indexing.{IsIndex, IsIndexed};
 ghost use Rattle.sve_gather.specs.Gathers.{AreWords, IsGather, lane_value, word_of_lanes};
 
 use crate::base::test_base;
+use crate::in_page;
 use crate::indexed::{Index, address, index_of, is_indexed, is_on};
 use core_regs::{Core, Effect, Trap};
 use element_loops::Plan;
@@ -95,7 +96,7 @@ fn load_lane<const E: u32, const N: u32>(
 
 /// The word of a lane of 64 bits.
 #[inline(always)]
-fn one_lane(lane: u64) -> u64
+pub(crate) fn one_lane(lane: u64) -> u64
     // whatever function gives the lanes
     ensures { (f : ℕ → ℕ) (i : ℕ) → lane ≡ f i → result ≡ word_of_lanes 64 f i }
 {
@@ -104,7 +105,7 @@ fn one_lane(lane: u64) -> u64
 
 /// The word of two lanes of 32 bits, the first the lower.
 #[inline(always)]
-fn two_lanes(low: u64, high: u64) -> u64
+pub(crate) fn two_lanes(low: u64, high: u64) -> u64
     // whatever function gives the lanes
     ensures { (f : ℕ → ℕ) (i : ℕ) → low ≡ f (2 * i) → high ≡ f (2 * i + 1) → result ≡ word_of_lanes 32 f i }
 {
@@ -180,7 +181,7 @@ fn load_words<const E: u32, const N: u32>(
 
 /// Writes the words of the register.
 #[inline(always)]
-fn write(plan: &Plan, vec: &mut VecRegs, words: &[u64; 32])
+pub(crate) fn write(plan: &Plan, vec: &mut VecRegs, words: &[u64; 32])
     requires plan { IsPlan plan.now vec.old }
     requires gather { IsGather plan.now }
     requires above { AreZeroFrom (vec.old.bits / 64) words.now }
@@ -192,10 +193,27 @@ fn write(plan: &Plan, vec: &mut VecRegs, words: &[u64; 32])
     vec.set_z_words(register_at(plan, 0), words);
 }
 
-/// Loads all elements in order, N bytes each for lanes of E bits, and then writes the register, or stops at the first
-/// that is refused. It isn't inlined, so that its loop has the processor's registers to itself.
+/// Writes the two words of a register of 128 bits.
+#[inline(always)]
+pub(crate) fn write_pair(plan: &Plan, vec: &mut VecRegs, low: u64, high: u64)
+    requires plan { IsPlan plan.now vec.old }
+    requires gather { IsGather plan.now }
+    requires short { vec.old.bits ≡ 128 }
+    // whatever the memory was that they were loaded from
+    ensures { (m : Memory) → low ≡ word_of_lanes plan.now.bits (lane_value plan.now vec.old m) 0
+        → high ≡ word_of_lanes plan.now.bits (lane_value plan.now vec.old m) 1
+        → vec.new ≡ loaded_by plan.now.target plan.now.is_signed (layout_of plan.now vec.old) m vec.old }
+{
+    let _length = vec.length();
+    let register = register_at(plan, 0);
+    let _words = vec.z_words(register);
+    vec.set_z_pair(register, 0, [low, high]);
+}
+
+/// Loads the elements in order, N bytes each for lanes of E bits, wherever they are, and then writes the register, or
+/// stops at the first that is refused.
 #[inline(never)]
-fn load_register<const E: u32, const N: u32>(
+fn load_long<const E: u32, const N: u32>(
     plan: &Plan,
     vec: &mut VecRegs,
     mem: &mut Mem,
@@ -225,7 +243,42 @@ fn load_register<const E: u32, const N: u32>(
     }
 }
 
+/// The same, by the bytes of one page where all elements are in it. It isn't inlined, so that its loop has the processor's registers to itself.
+#[inline(never)]
+fn load_register<const E: u32, const N: u32>(
+    plan: &Plan,
+    vec: &mut VecRegs,
+    mem: &mut Mem,
+    log: &mut AccessLog,
+) -> Result<(), Trap>
+    requires plan { IsPlan plan.now vec.old }
+    requires gather { IsGather plan.now }
+    requires indexed { IsIndexed plan.now }
+    requires bits { E ≡ plan.now.bits }
+    requires bytes { N ≡ plan.now.bytes }
+    requires empty { log.old.items ≡ [] }
+    ensures loaded { let l = layout_of plan.now vec.old in MatchResult result
+        (λ x. AreLoaded mem.old.memory (elements_of l) log.new.items)
+        (λ trap. StopsLoad mem.old.memory (elements_of l) log.new.items trap) }
+    ensures registers { let l = layout_of plan.now vec.old in MatchResult result
+        (λ x. vec.new ≡ loaded_by plan.now.target plan.now.is_signed l mem.old.memory vec.old)
+        (λ trap. vec.new ≡ vec.old) }
+    ensures memory { mem.new ≡ mem.old }
+{
+    let is_done = if vec.length().bits() == 128 {
+        in_page::load_short::<E, N>(plan, vec, mem, log)
+    } else {
+        in_page::load_long::<E, N>(plan, vec, mem, log)
+    };
+    if is_done {
+        return Ok(());
+    }
+    log.clear();
+    load_long::<E, N>(plan, vec, mem, log)
+}
+
 /// The same, with the sizes of lanes and elements told apart.
+#[inline(always)]
 fn load_all(plan: &Plan, vec: &mut VecRegs, mem: &mut Mem, log: &mut AccessLog) -> Result<(), Trap>
     requires plan { IsPlan plan.now vec.old }
     requires gather { IsGather plan.now }
@@ -256,6 +309,7 @@ fn load_all(plan: &Plan, vec: &mut VecRegs, mem: &mut Mem, log: &mut AccessLog) 
 }
 
 /// The same, and says how the step goes on.
+#[inline(always)]
 fn load_indexed(plan: &Plan, vec: &mut VecRegs, mem: &mut Mem, log: &mut AccessLog) -> Effect
     requires plan { IsPlan plan.now vec.old }
     requires gather { IsGather plan.now }
@@ -274,6 +328,7 @@ fn load_indexed(plan: &Plan, vec: &mut VecRegs, mem: &mut Mem, log: &mut AccessL
 
 /// Loads all elements and then writes the register, and says how the step goes on. The elements that were loaded are
 /// logged in order. A trap changes no register.
+#[inline(always)]
 pub fn load(
     plan: &Plan,
     core: &Core,

@@ -6,6 +6,7 @@
 
 mod base;
 mod gather;
+mod in_page;
 mod indexed;
 mod plans;
 mod scatter;
@@ -67,6 +68,7 @@ pub fn exec(
 
 /// Does a gather, and says how the step goes on. The elements that were loaded are logged in order. A trap changes no
 /// register.
+#[inline(never)]
 #[tactic(auto, using(crate::specs::PlanLaws::gather_planned, crate::specs::PlanLaws::gathers))]
 fn load(core: &Core, vec: &mut VecRegs, mem: &mut Mem, log: &mut AccessLog, i: &Sve) -> Effect
     requires own { is_gather i.now ≡ true }
@@ -81,6 +83,7 @@ fn load(core: &Core, vec: &mut VecRegs, mem: &mut Mem, log: &mut AccessLog, i: &
 
 /// Does a scatter, and says how the step goes on. The elements that were stored are logged in order; one that traps has
 /// stored and logged the elements before the one that was refused.
+#[inline(never)]
 #[tactic(auto, using(crate::specs::PlanLaws::scatter_planned, crate::specs::PlanLaws::scatters))]
 fn store(core: &Core, vec: &VecRegs, mem: &mut Mem, log: &mut AccessLog, i: &Sve) -> Effect
     requires own { is_scatter i.now ≡ true }
@@ -89,7 +92,7 @@ fn store(core: &Core, vec: &VecRegs, mem: &mut Mem, log: &mut AccessLog, i: &Sve
         ≡ record { core = core.now; vectors = vec.now; memory = m; accesses = log.new.items; effect = result } }
     ensures marks { mem.new.marks ≡ mem.old.marks }
 {
-    let plan = plans::plan(core, vec, i);
+    let plan = plans::plan_apart(core, vec, i);
     scatter::store(&plan, core, vec, mem, log)
 }
 
@@ -102,7 +105,7 @@ pub fn elements(core: &Core, vec: &VecRegs, i: &Sve) -> ElementList
     ensures bytes { let l = layout i.now core.now vec.now in result.bytes ≡ l.bytes }
     ensures is_signed { result.signed ≡ loads_signed i.now }
 {
-    element_loops::elements(&plans::plan(core, vec, i), vec)
+    element_loops::elements(&plans::plan_apart(core, vec, i), vec)
 }
 
 /// Does a first-faulting gather where FFR is all ones and it can be seen that no element is refused, and says whether
@@ -128,6 +131,6 @@ pub fn load_unrefused(
     ensures unlogged { result ≡ false → log.new.items ≡ [] }
     ensures memory { mem.new ≡ mem.old }
 {
-    let plan = plans::plan(core, vec, i);
+    let plan = plans::plan_apart(core, vec, i);
     crate::unrefused::load_gather(&plan, core, vec, mem, log)
 }

@@ -76,8 +76,20 @@ fn vector(zn: Reg, imm5: U<5>, msz: U<2>) -> Places
     }
 }
 
+/// The plan of a gather or a scatter. It isn't inlined, so that nothing of it is where it isn't the most of the work.
+#[inline(never)]
+pub(crate) fn plan_apart(core: &Core, vec: &VecRegs, i: &Sve) -> Plan
+    requires { table.has_gather_plan i.now ≡ true }
+    ensures plan { IsPlan result vec.now }
+    ensures gather { IsGather result }
+    ensures value { result ≡ table.plan_of i.now core.now vec.now }
+{
+    plan(core, vec, i)
+}
+
 /// The plan of a gather or a scatter.
 #[rattlefmt::skip]
+#[inline(always)]
 pub(crate) fn plan(core: &Core, vec: &VecRegs, i: &Sve) -> Plan
     requires { table.has_gather_plan i.now ≡ true }
     ensures plan { IsPlan result vec.now }

@@ -8,5 +8,5 @@ use Rattle.sve_gather.proofs.load_unrefused.Goals as goal
 pub returns-clause-loaded : goal.returns-clause-loaded
 returns-clause-loaded c = λ is.
     sym (first_loaded c.args.i.now c.args.core.now c.args.vec.now c.args.mem.now.memory c.requires.own)
-    ∙ ap (λ (p : Plan). first_fault_by (is_non_fault c.args.i.now) p c.args.core.now c.args.vec.now c.args.mem.now.memory) (sym c.plan-plan.ensures.value)
+    ∙ ap (λ (p : Plan). first_fault_by (is_non_fault c.args.i.now) p c.args.core.now c.args.vec.now c.args.mem.now.memory) (sym c.plan_apart-plan.ensures.value)
     ∙ c.load_gather.ensures.loaded is (is_non_fault c.args.i.now)
