@@ -230,9 +230,9 @@ impl Running {
         }
     }
 
-    /// Does the instruction of a word that may be in a row of SVE. It isn't inlined, so that no form of SVE is in the
-    /// loop.
-    #[inline(never)]
+    /// Does the instruction of a word that may be in a row of SVE. It is inlined, with all that leads to the function
+    /// of the row.
+    #[inline(always)]
     fn vector(&mut self, word: u32) -> Progress
         requires going { has_ended self.old ≡ false }
         requires room { self.old.parts.steps < 2 ^ 64 - 1 }

@@ -7,27 +7,25 @@ use Rattle.emu_model.specs.Done.{went_on_with}
 use Rattle.emu_model.specs.State.{Core, Vectors}
 use Rattle.sve_effects.specs.declared.groups.Group.{Group}
 use Rattle.sve_effects.specs.declared.groups.Group.TheVariants.{Lanes, Permutes, Counts, Folds, Predicates, Loads, Stores, Gathers, Scatters, FirstFaults}
-use Rattle.sve_effects.specs.Effects.{group_of, is_data, after_data, is_predicate, predicate, first_fault, is_contiguous_load, is_contiguous_store, is_gather, is_scatter, is_first_fault, same_group}
+use Rattle.sve_effects.specs.Effects.{group_of, by_fault, is_data, after_data, is_predicate, first_fault, is_contiguous_load, is_contiguous_store, is_gather, is_scatter, is_first_fault, same_group}
 use Rattle.sve_effects.specs.Rows.{performed}
 use Rattle.sve_gather.proofs.InGroup.{as_in, done_in, form_done}
 
--- the groups of the data rows
-abbrev is_data_group : Group → Bool
-is_data_group g = same_group Lanes g || (same_group Permutes g || (same_group Counts g || same_group Folds g))
+-- the groups of the rows that reach no memory
+abbrev is_register_group : Group → Bool
+is_register_group g = (same_group Lanes g || (same_group Permutes g || (same_group Counts g || same_group Folds g))) || same_group Predicates g
 
-data_in : (c : Core) (v : Vectors) (m : Memory) (g : Group) (form : SveForm) → is_data_group g ≡ true → done_in c v m g form ≡ went_on_with (after_data form c v) m
-data_in c v m Lanes form h = refl
-data_in c v m Permutes form h = refl
-data_in c v m Counts form h = refl
-data_in c v m Folds form h = refl
-data_in c v m g form h = absurd (both_ways false refl h)
+registers_in : (c : Core) (v : Vectors) (m : Memory) (g : Group) (form : SveForm) → is_register_group g ≡ true → done_in c v m g form ≡ went_on_with (after_data form c v) m
+registers_in c v m Lanes form h = refl
+registers_in c v m Permutes form h = refl
+registers_in c v m Counts form h = refl
+registers_in c v m Folds form h = refl
+registers_in c v m Predicates form h = refl
+registers_in c v m g form h = absurd (both_ways false refl h)
 
 module _ (form : SveForm) (c : Core) (v : Vectors) (m : Memory) where
-  pub data_done : is_data form ≡ true → performed form c v m ≡ went_on_with (after_data form c v) m
-  data_done h = form_done c v m form ∙ data_in c v m (group_of form) form h
-
-  pub predicate_done : group_of form ≡ Predicates → performed form c v m ≡ went_on_with (predicate form c v) m
-  predicate_done e = as_in form c v m Predicates e
+  pub registers_done : (is_data form || is_predicate form) ≡ true → performed form c v m ≡ went_on_with (after_data form c v) m
+  registers_done h = form_done c v m form ∙ registers_in c v m (group_of form) form h
 
   pub first_fault_done : group_of form ≡ FirstFaults → performed form c v m ≡ first_fault form c v m
   first_fault_done e = as_in form c v m FirstFaults e
@@ -48,13 +46,21 @@ scatter_own form e = ap (λ (g : Group). same_group Gathers g || same_group Scat
 pub first_fault_own : (form : SveForm) → group_of form ≡ FirstFaults → is_first_fault form ≡ true
 first_fault_own form e = ap (λ (g : Group). same_group FirstFaults g) e
 
-pub predicate_own : (form : SveForm) → group_of form ≡ Predicates → is_predicate form ≡ true
-predicate_own form e = ap (λ (g : Group). same_group Predicates g) e
+pub registers_own : (form : SveForm) → (group_of form ≡ Lanes) ⊎ ((group_of form ≡ Permutes) ⊎ ((group_of form ≡ Counts) ⊎ ((group_of form ≡ Folds) ⊎ (group_of form ≡ Predicates)))) → (is_data form || is_predicate form) ≡ true
+registers_own form (inl e) = ap (λ (g : Group). is_register_group g) e
+registers_own form (inr (inl e)) = ap (λ (g : Group). is_register_group g) e
+registers_own form (inr (inr (inl e))) = ap (λ (g : Group). is_register_group g) e
+registers_own form (inr (inr (inr (inl e)))) = ap (λ (g : Group). is_register_group g) e
+registers_own form (inr (inr (inr (inr e)))) = ap (λ (g : Group). is_register_group g) e
 
-pub lanes_own : (form : SveForm) → group_of form ≡ Lanes → is_data form ≡ true
-lanes_own form e = ap (λ (g : Group). is_data_group g) e
+pub memory_own : (form : SveForm) → (group_of form ≡ Loads) ⊎ ((group_of form ≡ Stores) ⊎ ((group_of form ≡ Gathers) ⊎ ((group_of form ≡ Scatters) ⊎ (group_of form ≡ FirstFaults)))) → (is_data form || is_predicate form) ≡ false
+memory_own form (inl e) = ap (λ (g : Group). is_register_group g) e
+memory_own form (inr (inl e)) = ap (λ (g : Group). is_register_group g) e
+memory_own form (inr (inr (inl e))) = ap (λ (g : Group). is_register_group g) e
+memory_own form (inr (inr (inr (inl e)))) = ap (λ (g : Group). is_register_group g) e
+memory_own form (inr (inr (inr (inr e)))) = ap (λ (g : Group). is_register_group g) e
 
-pub across_own : (form : SveForm) → (group_of form ≡ Permutes) ⊎ ((group_of form ≡ Counts) ⊎ (group_of form ≡ Folds)) → is_data form ≡ true
-across_own form (inl e) = ap (λ (g : Group). is_data_group g) e
-across_own form (inr (inl e)) = ap (λ (g : Group). is_data_group g) e
-across_own form (inr (inr e)) = ap (λ (g : Group). is_data_group g) e
+-- a gather reaches memory, whether it is first-faulting or not
+pub gathers_reach : (is_first : Bool) → is_register_group (by_fault is_first) ≡ false
+gathers_reach true = refl
+gathers_reach false = refl

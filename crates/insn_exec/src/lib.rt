@@ -4,13 +4,16 @@
 //! programs of cases.
 #![tactic(auto)]
 
-ghost use Rattle.std.specs.Prelude.{◌≡◌, [], true, false};
+ghost use Rattle.std.specs.Prelude.{◌≡◌, ◌||◌, [], true, false};
 ghost use Rattle.emu_model.specs.declared.trap.Effect.{Effect};
 ghost use Rattle.emu_run.specs.Step.{performed};
 ghost use Rattle.a64_effects.specs.Effects as a64;
 ghost use Rattle.sve_effects.specs.Rows as sve;
 ghost use Rattle.sve_effects.specs.Effects.{
   group_of,
+  after_data,
+  is_data,
+  is_predicate,
   layout,
   vector_elements,
   first_fault,
@@ -85,7 +88,7 @@ pub fn perform_a64(
 
 /// The same of an SVE instruction.
 #[inline(always)]
-#[tactic(auto, using(crate::proofs::InGroup::lanes_own, crate::proofs::InGroup::across_own, crate::proofs::InGroup::data_done, crate::proofs::InGroup::predicate_own, crate::proofs::InGroup::predicate_done, crate::proofs::InGroup::load_own, crate::proofs::InGroup::store_own, crate::proofs::InGroup::gather_own, crate::proofs::InGroup::scatter_own, crate::proofs::InGroup::first_fault_own, crate::proofs::InGroup::first_fault_done))]
+#[tactic(auto, using(crate::proofs::InGroup::registers_own, crate::proofs::InGroup::registers_done, crate::proofs::InGroup::memory_own))]
 pub fn perform_sve(
     core: &mut Core,
     vec: &mut VecRegs,
@@ -104,21 +107,179 @@ pub fn perform_sve(
     ensures marks { memory.new.marks ≡ memory.old.marks }
 {
     match sve_effects::group_of(insn.form()) {
-        // apart, so that each crate goes by the group that is known here
-        Group::Lanes => sve_data::exec(core, vec, insn),
-        Group::Permutes | Group::Counts | Group::Folds => sve_data::exec(core, vec, insn),
-        Group::Predicates => {
+        Group::Lanes | Group::Permutes | Group::Counts | Group::Folds | Group::Predicates => {
             // its effect is this one, so that none is read back
-            sve_pred::exec(core, vec, insn);
+            on_registers(core, vec, insn);
             Effect::Next
         }
-        Group::Loads | Group::Stores => sve_loads::exec(core, vec, memory, log, insn),
-        Group::Gathers | Group::Scatters => sve_gather::exec(core, vec, memory, log, insn),
-        Group::FirstFaults => load_first_fault(core, vec, memory, log, insn),
+        Group::Loads | Group::Stores | Group::Gathers | Group::Scatters | Group::FirstFaults => {
+            in_memory(core, vec, memory, log, insn)
+        }
     }
 }
 
+/// Does an SVE instruction that reaches memory. An arm for each of the forms that loops are made of leads to the
+/// function of its row by one jump.
+#[inline(always)]
+#[tactic(auto, using(crate::proofs::InGroup::registers_own, crate::proofs::InGroup::load_own, crate::proofs::InGroup::store_own, crate::proofs::InGroup::gather_own, crate::proofs::InGroup::scatter_own, crate::proofs::InGroup::first_fault_own, crate::proofs::InGroup::first_fault_done))]
+fn in_memory(
+    core: &mut Core,
+    vec: &mut VecRegs,
+    memory: &mut Mem,
+    log: &mut AccessLog,
+    insn: &Sve,
+) -> Effect
+    requires own { (is_data insn.now || is_predicate insn.now) ≡ false }
+    requires empty { log.old.items ≡ [] }
+    ensures done { sve.performed insn.now core.old vec.old memory.old.memory ≡ record {
+      core = core.new;
+      vectors = vec.new;
+      memory = memory.new.memory;
+      accesses = log.new.items;
+      effect = result;
+    } }
+    ensures marks { memory.new.marks ≡ memory.old.marks }
+{
+    match *insn.form() {
+        SveForm::LoadImm { .. } => sve_loads::exec(core, vec, memory, log, insn),
+        SveForm::LoadReg { .. } => sve_loads::exec(core, vec, memory, log, insn),
+        SveForm::LoadZ { .. } => sve_loads::exec(core, vec, memory, log, insn),
+        SveForm::StoreImm { .. } => sve_loads::exec(core, vec, memory, log, insn),
+        SveForm::StoreReg { .. } => sve_loads::exec(core, vec, memory, log, insn),
+        SveForm::StoreZ { .. } => sve_loads::exec(core, vec, memory, log, insn),
+        // apart, so that each crate goes by the group that is known here
+        _ => match sve_effects::group_of(insn.form()) {
+            Group::Loads => sve_loads::exec(core, vec, memory, log, insn),
+            Group::Stores => sve_loads::exec(core, vec, memory, log, insn),
+            Group::Gathers => sve_gather::exec(core, vec, memory, log, insn),
+            Group::Scatters => sve_gather::exec(core, vec, memory, log, insn),
+            Group::FirstFaults => load_first_fault(core, vec, memory, log, insn),
+            Group::Lanes | Group::Permutes | Group::Counts | Group::Folds | Group::Predicates => {
+                unreachable!()
+            }
+        },
+    }
+}
+
+/// Does an SVE instruction that reaches no memory. An arm for each form leads to the function of its row by one jump,
+/// with nothing kept in a frame. It isn't inlined, so that no form is in the code of its callers.
+#[inline(never)]
+#[tactic(auto, using(crate::proofs::InGroup::gathers_reach))]
+fn on_registers(core: &mut Core, vec: &mut VecRegs, insn: &Sve)
+    requires { (is_data insn.now || is_predicate insn.now) ≡ true }
+    ensures core { core.new ≡ (after_data insn.now core.old vec.old).core }
+    ensures vectors { vec.new ≡ (after_data insn.now core.old vec.old).vectors }
+{
+    let _next = match *insn.form() {
+        SveForm::Binary { .. } => sve_data::exec(core, vec, insn),
+        SveForm::BinaryWide { .. } => sve_data::exec(core, vec, insn),
+        SveForm::ShiftImm { .. } => sve_data::exec(core, vec, insn),
+        SveForm::Unary { .. } => sve_data::exec(core, vec, insn),
+        SveForm::MulAddZ { .. } => sve_data::exec(core, vec, insn),
+        SveForm::MulAddD { .. } => sve_data::exec(core, vec, insn),
+        SveForm::Plain { .. } => sve_data::exec(core, vec, insn),
+        SveForm::LogicZ { .. } => sve_data::exec(core, vec, insn),
+        SveForm::PlainWide { .. } => sve_data::exec(core, vec, insn),
+        SveForm::PlainShift { .. } => sve_data::exec(core, vec, insn),
+        SveForm::Index { .. } => sve_data::exec(core, vec, insn),
+        SveForm::Dot { .. } => sve_data::exec(core, vec, insn),
+        SveForm::DotIndexed { .. } => sve_data::exec(core, vec, insn),
+        SveForm::WideImm { .. } => sve_data::exec(core, vec, insn),
+        SveForm::MinMaxImm { .. } => sve_data::exec(core, vec, insn),
+        SveForm::DupImm { .. } => sve_data::exec(core, vec, insn),
+        SveForm::BitmaskZ { .. } => sve_data::exec(core, vec, insn),
+        SveForm::CopyImm { .. } => sve_data::exec(core, vec, insn),
+        SveForm::PrefixP { .. } => sve_data::exec(core, vec, insn),
+        SveForm::Prefix { .. } => sve_data::exec(core, vec, insn),
+        SveForm::SelectZ { .. } => sve_data::exec(core, vec, insn),
+        SveForm::Reduce { .. } => sve_data::exec(core, vec, insn),
+        SveForm::Count { .. } => sve_data::exec(core, vec, insn),
+        SveForm::IncX { .. } => sve_data::exec(core, vec, insn),
+        SveForm::IncZ { .. } => sve_data::exec(core, vec, insn),
+        SveForm::SatX { .. } => sve_data::exec(core, vec, insn),
+        SveForm::SatZ { .. } => sve_data::exec(core, vec, insn),
+        SveForm::AddLength { .. } => sve_data::exec(core, vec, insn),
+        SveForm::ReadLength { .. } => sve_data::exec(core, vec, insn),
+        SveForm::DupReg { .. } => sve_data::exec(core, vec, insn),
+        SveForm::DupLane { .. } => sve_data::exec(core, vec, insn),
+        SveForm::Insert { .. } => sve_data::exec(core, vec, insn),
+        SveForm::RevZ { .. } => sve_data::exec(core, vec, insn),
+        SveForm::Unpack { .. } => sve_data::exec(core, vec, insn),
+        SveForm::Table { .. } => sve_data::exec(core, vec, insn),
+        SveForm::Interleave { .. } => sve_data::exec(core, vec, insn),
+        SveForm::InterleaveP { .. } => sve_data::exec(core, vec, insn),
+        SveForm::UnpackP { .. } => sve_data::exec(core, vec, insn),
+        SveForm::RevP { .. } => sve_data::exec(core, vec, insn),
+        SveForm::Compact { .. } => sve_data::exec(core, vec, insn),
+        SveForm::Splice { .. } => sve_data::exec(core, vec, insn),
+        SveForm::Ext { .. } => sve_data::exec(core, vec, insn),
+        SveForm::CopyReg { .. } => sve_data::exec(core, vec, insn),
+        SveForm::Last { .. } => sve_data::exec(core, vec, insn),
+        SveForm::CondLast { .. } => sve_data::exec(core, vec, insn),
+        SveForm::CmpVec { .. } => sve_pred::exec(core, vec, insn),
+        SveForm::CmpWide { .. } => sve_pred::exec(core, vec, insn),
+        SveForm::CmpUImm { .. } => sve_pred::exec(core, vec, insn),
+        SveForm::CmpSImm { .. } => sve_pred::exec(core, vec, insn),
+        SveForm::LogicP { .. } => sve_pred::exec(core, vec, insn),
+        SveForm::SelectP { .. } => sve_pred::exec(core, vec, insn),
+        SveForm::Break { .. } => sve_pred::exec(core, vec, insn),
+        SveForm::BreakPair { .. } => sve_pred::exec(core, vec, insn),
+        SveForm::BreakNext { .. } => sve_pred::exec(core, vec, insn),
+        SveForm::Ptest { .. } => sve_pred::exec(core, vec, insn),
+        SveForm::First { .. } => sve_pred::exec(core, vec, insn),
+        SveForm::Next { .. } => sve_pred::exec(core, vec, insn),
+        SveForm::Ptrue { .. } => sve_pred::exec(core, vec, insn),
+        SveForm::Pfalse { .. } => sve_pred::exec(core, vec, insn),
+        SveForm::ReadFfr { .. } => sve_pred::exec(core, vec, insn),
+        SveForm::ReadFfrAll { .. } => sve_pred::exec(core, vec, insn),
+        SveForm::WriteFfr { .. } => sve_pred::exec(core, vec, insn),
+        SveForm::CountP { .. } => sve_pred::exec(core, vec, insn),
+        SveForm::IncP { .. } => sve_pred::exec(core, vec, insn),
+        SveForm::IncPZ { .. } => sve_pred::exec(core, vec, insn),
+        SveForm::While { .. } => sve_pred::exec(core, vec, insn),
+        SveForm::Cterm { .. } => sve_pred::exec(core, vec, insn),
+        SveForm::LoadImm { .. } => unreachable!(),
+        SveForm::LoadReg { .. } => unreachable!(),
+        SveForm::LoadFf { .. } => unreachable!(),
+        SveForm::LoadNf { .. } => unreachable!(),
+        SveForm::LoadNtImm { .. } => unreachable!(),
+        SveForm::LoadNtReg { .. } => unreachable!(),
+        SveForm::LoadQuadImm { .. } => unreachable!(),
+        SveForm::LoadQuadReg { .. } => unreachable!(),
+        SveForm::LoadManyImm { .. } => unreachable!(),
+        SveForm::LoadManyReg { .. } => unreachable!(),
+        SveForm::LoadOne { .. } => unreachable!(),
+        SveForm::LoadZ { .. } => unreachable!(),
+        SveForm::LoadP { .. } => unreachable!(),
+        SveForm::StoreImm { .. } => unreachable!(),
+        SveForm::StoreReg { .. } => unreachable!(),
+        SveForm::StoreNtImm { .. } => unreachable!(),
+        SveForm::StoreNtReg { .. } => unreachable!(),
+        SveForm::StoreManyImm { .. } => unreachable!(),
+        SveForm::StoreManyReg { .. } => unreachable!(),
+        SveForm::StoreZ { .. } => unreachable!(),
+        SveForm::StoreP { .. } => unreachable!(),
+        SveForm::GatherSx { .. } => unreachable!(),
+        SveForm::GatherSxScaled { .. } => unreachable!(),
+        SveForm::GatherDx { .. } => unreachable!(),
+        SveForm::GatherDxScaled { .. } => unreachable!(),
+        SveForm::GatherD { .. } => unreachable!(),
+        SveForm::GatherDScaled { .. } => unreachable!(),
+        SveForm::GatherSv { .. } => unreachable!(),
+        SveForm::GatherDv { .. } => unreachable!(),
+        SveForm::ScatterSx { .. } => unreachable!(),
+        SveForm::ScatterSxScaled { .. } => unreachable!(),
+        SveForm::ScatterDx { .. } => unreachable!(),
+        SveForm::ScatterDxScaled { .. } => unreachable!(),
+        SveForm::ScatterD { .. } => unreachable!(),
+        SveForm::ScatterDScaled { .. } => unreachable!(),
+        SveForm::ScatterSv { .. } => unreachable!(),
+        SveForm::ScatterDv { .. } => unreachable!(),
+    };
+}
+
 /// Does a first-faulting or non-faulting load.
+#[inline(never)]
 fn load_first_fault(
     core: &mut Core,
     vec: &mut VecRegs,

@@ -1,5 +1,7 @@
 -- Loads and stores that are done at once.
-use Rattle.std.specs.Prelude.{◌≡◌, ◌<◌, ◌≤◌, ℕ, ◌+◌, ◌*◌, ◌%◌, true, nat_lt}
+use Rattle.std.specs.Prelude.{◌≡◌, ◌<◌, ◌≤◌, ℕ, ◌+◌, ◌*◌, ◌%◌, Bool, true, false, nat_lt}
+use Rattle.sve_insn.specs.declared.form.SveForm.{SveForm}
+use Rattle.sve_insn.specs.declared.form.SveForm.TheVariants.{LoadImm, LoadReg, LoadZ, StoreImm, StoreReg, StoreZ}
 use Rattle.emu_model.specs.declared.access.Kind.{Kind}
 use Rattle.emu_model.specs.Access.{Memory, allowed, page_size}
 use Rattle.emu_model.specs.State.{Core, Vectors}
@@ -20,3 +22,28 @@ pub record IsAtOnce (n base : ℕ) (kind : Kind) (p : Plan) (c : Core) (v : Vect
   pub within : base % page_size + n * p.bytes ≤ page_size
   pub allowed : allowed m kind base ≡ true
   pub aligned : p.has_sp_base ≡ true → c.sp % 16 ≡ 0
+
+-- the rows that loops are made of
+abbrev pub is_load_imm : SveForm → Bool
+is_load_imm (LoadImm dtype imm4 pg rn zt) = true
+is_load_imm form = false
+
+abbrev pub is_load_reg : SveForm → Bool
+is_load_reg (LoadReg dtype rm pg rn zt) = true
+is_load_reg form = false
+
+abbrev pub is_load_z : SveForm → Bool
+is_load_z (LoadZ imm9h imm9l rn zt) = true
+is_load_z form = false
+
+abbrev pub is_store_imm : SveForm → Bool
+is_store_imm (StoreImm msz size imm4 pg rn zt) = true
+is_store_imm form = false
+
+abbrev pub is_store_reg : SveForm → Bool
+is_store_reg (StoreReg msz size rm pg rn zt) = true
+is_store_reg form = false
+
+abbrev pub is_store_z : SveForm → Bool
+is_store_z (StoreZ imm9h imm9l rn zt) = true
+is_store_z form = false

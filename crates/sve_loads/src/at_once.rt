@@ -190,7 +190,7 @@ fn load_filled_imm(
 
 /// `ld1` at an immediate.
 #[inline(always)]
-fn load_imm(
+pub(crate) fn load_imm(
     core: &Core,
     vec: &mut VecRegs,
     mem: &mut Mem,
@@ -293,7 +293,7 @@ fn load_filled_reg(
 
 /// `ld1` at a register.
 #[inline(always)]
-fn load_reg(
+pub(crate) fn load_reg(
     core: &Core,
     vec: &mut VecRegs,
     mem: &mut Mem,
@@ -358,7 +358,7 @@ fn load_nt_reg(
 
 /// `ldr` of a Z register.
 #[inline(always)]
-fn load_z(
+pub(crate) fn load_z(
     core: &Core,
     vec: &mut VecRegs,
     mem: &mut Mem,
@@ -474,7 +474,7 @@ fn store_filled_imm(
 
 /// `st1` at an immediate.
 #[inline(always)]
-fn store_imm(
+pub(crate) fn store_imm(
     core: &Core,
     vec: &VecRegs,
     mem: &mut Mem,
@@ -578,7 +578,7 @@ fn store_filled_reg(
 
 /// `st1` at a register.
 #[inline(always)]
-fn store_reg(
+pub(crate) fn store_reg(
     core: &Core,
     vec: &VecRegs,
     mem: &mut Mem,
@@ -644,7 +644,7 @@ fn store_nt_reg(
 
 /// `str` of a Z register.
 #[inline(always)]
-fn store_z(
+pub(crate) fn store_z(
     core: &Core,
     vec: &VecRegs,
     mem: &mut Mem,
@@ -682,8 +682,8 @@ fn store_z(
 /// Does a load or a store at once where its elements fill the first lanes of a register, which alone are active, and are
 /// in one page that has the right; and says whether it did. Else nothing is changed.
 #[rattlefmt::skip]
-#[inline(always)]
-pub(crate) fn perform(core: &Core, vec: &mut VecRegs, mem: &mut Mem, log: &mut AccessLog, i: &Sve) -> bool
+#[inline(never)]
+pub(crate) fn by_form(core: &Core, vec: &mut VecRegs, mem: &mut Mem, log: &mut AccessLog, i: &Sve) -> bool
     requires own { (is_contiguous_load i.now || is_contiguous_store i.now) ≡ true }
     requires empty { log.old.items ≡ [] }
     ensures done { result ≡ true → performed i.now core.now vec.old mem.old.memory ≡ record {

@@ -5,6 +5,7 @@
 
 mod at_once;
 mod bases;
+mod by_row;
 mod plans;
 mod rows;
 mod shape;
@@ -48,7 +49,7 @@ pub fn exec(
         ≡ record { core = core.new; vectors = vec.new; memory = m; accesses = log.new.items; effect = result } }
     ensures marks { mem.new.marks ≡ mem.old.marks }
 {
-    if at_once::perform(core, vec, mem, log, i) {
+    if by_row::perform(core, vec, mem, log, i) {
         return Effect::Next;
     }
     by_plan(core, vec, mem, log, i)
@@ -79,8 +80,8 @@ fn by_plan(core: &Core, vec: &mut VecRegs, mem: &mut Mem, log: &mut AccessLog, i
 }
 
 /// Does a load by its plan, and says how the step goes on. The elements that were loaded are logged in order. A trap
-/// changes no register.
-#[inline(always)]
+/// changes no register. It isn't inlined, so that what is done at once has no frame of its size.
+#[inline(never)]
 #[tactic(auto, using(crate::specs::PlanLaws::load_planned))]
 fn load(core: &Core, vec: &mut VecRegs, mem: &mut Mem, log: &mut AccessLog, i: &Sve) -> Effect
     requires own { is_contiguous_load i.now ≡ true }
@@ -94,8 +95,8 @@ fn load(core: &Core, vec: &mut VecRegs, mem: &mut Mem, log: &mut AccessLog, i: &
 }
 
 /// Does a store by its plan, and says how the step goes on. The elements that were stored are logged in order; a store
-/// that traps has stored and logged the elements before the one that was refused.
-#[inline(always)]
+/// that traps has stored and logged the elements before the one that was refused. It isn't inlined either.
+#[inline(never)]
 #[tactic(auto, using(crate::specs::PlanLaws::store_planned))]
 fn store(core: &Core, vec: &VecRegs, mem: &mut Mem, log: &mut AccessLog, i: &Sve) -> Effect
     requires own { is_contiguous_store i.now ≡ true }

@@ -4,7 +4,7 @@ use Rattle.sve_insn.specs.declared.form.SveForm.{SveForm}
 use Rattle.sve_loads.specs.AtOnce.{IsAtOnce}
 use Rattle.sve_loads.specs.Plans.{load_plan, store_plan}
 use Rattle.sve_loads.proofs.InGroup.{load_row, store_row}
-use Rattle.sve_loads.proofs.at_once.perform.Goals as goal
+use Rattle.sve_loads.proofs.at_once.by_form.Goals as goal
 
 pub returns-in-LoadImm-clause-done : goal.returns-in-LoadImm-clause-done
 returns-in-LoadImm-clause-done c = λ is. load_row _ _ c.args.core.now c.args.vec.now c.args.mem.now.memory _ refl (c.load_imm.ensures.loaded is) (sym c.in-LoadImm.is ∙ c.form.ensures.form)
